@@ -1,0 +1,28 @@
+-- The larger and the smaller of two integers: bounds, the least and the greatest of their kind.
+use mathlib.Core.Path.{_≡_}
+use lib.IntN.{ℤ, negℤ, negℤ-negℤ}
+use lib.Signed.{_≤ℤ_, ltZ, ltZ-yes, ltZ-no, ≤ℤ-refl}
+use Rattle.algebra.specs.MinMax.{minℤ, maxℤ}
+use Rattle.algebra.proofs.Choice.{choice}
+use Rattle.algebra.proofs.Order.{≤ℤ-of-<ℤ, ≤ℤ-antisymm, negℤ-mono}
+
+pub ≤ℤ-maxℤ : (a b : ℤ) → (a ≤ℤ maxℤ a b) × (b ≤ℤ maxℤ a b)
+unfolding maxℤ
+≤ℤ-maxℤ a b = choice (λ x. (a ≤ℤ x) × (b ≤ℤ x)) (ltZ a b) b a (λ t. (≤ℤ-of-<ℤ (ltZ-yes t), ≤ℤ-refl b)) (λ t. (≤ℤ-refl a, ltZ-no t))
+
+pub maxℤ-least : {a b c : ℤ} → a ≤ℤ c → b ≤ℤ c → maxℤ a b ≤ℤ c
+unfolding maxℤ
+maxℤ-least {a} {b} {c} h k = choice (λ x. x ≤ℤ c) (ltZ a b) b a (λ t. k) (λ t. h)
+
+pub minℤ-≤ℤ : (a b : ℤ) → (minℤ a b ≤ℤ a) × (minℤ a b ≤ℤ b)
+unfolding minℤ
+minℤ-≤ℤ a b = choice (λ x. (x ≤ℤ a) × (x ≤ℤ b)) (ltZ a b) a b (λ t. (≤ℤ-refl a, ≤ℤ-of-<ℤ (ltZ-yes t))) (λ t. (ltZ-no t, ≤ℤ-refl b))
+
+pub minℤ-greatest : {a b c : ℤ} → c ≤ℤ a → c ≤ℤ b → c ≤ℤ minℤ a b
+unfolding minℤ
+minℤ-greatest {a} {b} {c} h k = choice (λ x. c ≤ℤ x) (ltZ a b) a b (λ t. h) (λ t. k)
+
+pub negℤ-minℤ : (a b : ℤ) → negℤ (minℤ a b) ≡ maxℤ (negℤ a) (negℤ b)
+negℤ-minℤ a b = ≤ℤ-antisymm
+    (rw negℤ-negℤ at (negℤ-mono (minℤ-greatest (rw negℤ-negℤ at (negℤ-mono (≤ℤ-maxℤ (negℤ a) (negℤ b) .0))) (rw negℤ-negℤ at (negℤ-mono (≤ℤ-maxℤ (negℤ a) (negℤ b) .1))))))
+    (maxℤ-least (negℤ-mono (minℤ-≤ℤ a b .0)) (negℤ-mono (minℤ-≤ℤ a b .1)))

@@ -1,0 +1,45 @@
+-- The tools at work: what the solver proves, and how an identity or an order is carried over from one in hand.
+use mathlib.Core.Path.{_≡_, ap}
+use mathlib.Core.List.{[], _∷_}
+use Prim.Native.Nat.{ℕ, _+_, _*_}
+use lib.IntN.{ℤ, pos, _+ℤ_, _-ℤ_, _*ℤ_, negℤ, natAbs, pow}
+use lib.Signed.{_≤ℤ_}
+use Rattle.algebra.specs.Sum.{sum, _⋯_}
+use Rattle.algebra.proofs.Integer.{≡-by}
+use Rattle.algebra.proofs.Order.{≤ℤ-by, +ℤ-mono, *ℤ-mono₂, signs, bounds}
+use Rattle.algebra.proofs.Sum.{sum-+, *ℤ-sum}
+use Rattle.algebra.proofs.Ring.{ring, _⊕_, _⊖_, _⊗_, ⊝_, _⋆_, #_, _≐_}
+
+-- a factorisation in three variables
+cubes : (a b c : ℤ) → pow a 3 +ℤ pow b 3 +ℤ pow c 3 -ℤ pos 3 *ℤ a *ℤ b *ℤ c ≡ (a +ℤ b +ℤ c) *ℤ (pow a 2 +ℤ pow b 2 +ℤ pow c 2 -ℤ a *ℤ b -ℤ b *ℤ c -ℤ c *ℤ a)
+cubes a b c = ring (a ∷ b ∷ c ∷ []) (λ a b c. a ⋆ 3 ⊕ b ⋆ 3 ⊕ c ⋆ 3 ⊖ # 3 ⊗ a ⊗ b ⊗ c ≐ (a ⊕ b ⊕ c) ⊗ (a ⋆ 2 ⊕ b ⋆ 2 ⊕ c ⋆ 2 ⊖ a ⊗ b ⊖ b ⊗ c ⊖ c ⊗ a)) tt
+
+-- ten factors of six variables, moved about
+factors : (a b c d e f : ℤ) → a *ℤ (b *ℤ (c *ℤ d)) *ℤ (e *ℤ f) *ℤ (negℤ a *ℤ c) *ℤ (f *ℤ e) ≡ negℤ (f *ℤ f *ℤ (e *ℤ e) *ℤ d *ℤ (c *ℤ c) *ℤ b *ℤ (a *ℤ a))
+factors a b c d e f = ring (a ∷ b ∷ c ∷ d ∷ e ∷ f ∷ []) (λ a b c d e f. a ⊗ (b ⊗ (c ⊗ d)) ⊗ (e ⊗ f) ⊗ (⊝ a ⊗ c) ⊗ (f ⊗ e) ≐ ⊝ (f ⊗ f ⊗ (e ⊗ e) ⊗ d ⊗ (c ⊗ c) ⊗ b ⊗ (a ⊗ a))) tt
+
+-- the sixth power of a sum of six: 462 terms
+sixth : (a b c d e f : ℤ) → pow (a +ℤ b +ℤ c +ℤ d +ℤ e +ℤ f) 6 ≡ pow (f +ℤ e +ℤ d +ℤ c +ℤ b +ℤ a) 2 *ℤ pow (a +ℤ f +ℤ b +ℤ e +ℤ c +ℤ d) 4
+sixth a b c d e f = ring (a ∷ b ∷ c ∷ d ∷ e ∷ f ∷ []) (λ a b c d e f. (a ⊕ b ⊕ c ⊕ d ⊕ e ⊕ f) ⋆ 6 ≐ (f ⊕ e ⊕ d ⊕ c ⊕ b ⊕ a) ⋆ 2 ⊗ (a ⊕ f ⊕ b ⊕ e ⊕ c ⊕ d) ⋆ 4) tt
+
+-- an identity of natural numbers, among the integers
+naturals : (m n : ℕ) → (m + n) * (m + n) ≡ m * m + 2 * (m * n) + n * n
+naturals m n = ap natAbs (ring (pos m ∷ pos n ∷ []) (λ m n. (m ⊕ n) ⊗ (m ⊕ n) ≐ m ⊗ m ⊕ # 2 ⊗ (m ⊗ n) ⊕ n ⊗ n) tt)
+
+-- from an equation in hand, and from orders in hand
+by-equation : (a b c : ℤ) → a *ℤ a ≡ b +ℤ c → pow a 4 ≡ b *ℤ b +ℤ pos 2 *ℤ b *ℤ c +ℤ c *ℤ c
+by-equation a b c e = ≡-by (ap (λ x. pow x 2) e) (ring (a ∷ b ∷ c ∷ []) (λ a b c. a ⋆ 4 ⊖ (b ⊗ b ⊕ # 2 ⊗ b ⊗ c ⊕ c ⊗ c) ≐ (a ⊗ a) ⋆ 2 ⊖ (b ⊕ c) ⋆ 2) tt)
+
+by-orders : (a b c : ℤ) → a ≤ℤ b → b ≤ℤ c → (pos 2 *ℤ a) ≤ℤ (b +ℤ c)
+by-orders a b c h k = ≤ℤ-by (+ℤ-mono (+ℤ-mono h h) k) (ring (a ∷ b ∷ c ∷ []) (λ a b c. b ⊕ c ⊖ # 2 ⊗ a ≐ b ⊕ b ⊕ c ⊖ (a ⊕ a ⊕ b)) tt)
+
+-- signs and monotone steps, found by search
+by-signs : (a b c : ℤ) → pos 0 ≤ℤ a → pos 0 ≤ℤ b → pos 0 ≤ℤ (a *ℤ (b +ℤ c *ℤ c) +ℤ pow b 7)
+by-signs a b c h k = search signs
+
+by-bounds : (a b c d : ℤ) → pos 0 ≤ℤ a → a ≤ℤ b → pos 0 ≤ℤ c → c ≤ℤ d → (pow a 3 *ℤ c +ℤ pos 2) ≤ℤ (pow b 3 *ℤ d +ℤ pos 2)
+by-bounds a b c d h k l m = search (bounds, signs, *ℤ-mono₂)
+
+-- laws of sums, by `simp`
+linear : (n : ℕ) (f : ℕ → ℤ) (c : ℤ) → sum (0 ⋯ n) (λ i. f i +ℤ c *ℤ f i) ≡ sum (0 ⋯ n) f +ℤ c *ℤ sum (0 ⋯ n) f
+linear n f c = simp (sum-+, ← *ℤ-sum)

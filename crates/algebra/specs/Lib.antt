@@ -1,0 +1,4 @@
+-- The definitions that the project adds to the kit's ℤ: all that a reader of this crate must believe.
+pub mod Sum
+pub mod Binomial
+pub mod MinMax

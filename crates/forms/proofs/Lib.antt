@@ -1,0 +1,7 @@
+-- The theorems on polynomials over a box, from the bottom up: vectors, points, moved points, then those of docs/PROMISES.md.
+pub mod Vectors
+pub mod Points
+pub mod Shift
+pub mod Taylor
+pub mod Bounds
+pub mod Containment
