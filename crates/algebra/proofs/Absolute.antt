@@ -42,4 +42,3 @@ pub natAbs-+ℤ : (a b : ℤ) → natAbs (a +ℤ b) ≤ natAbs a + natAbs b
 natAbs-+ℤ a b = natAbs-bound
     (≤ℤ-trans (≤ℤ-of-≡ (negℤ-+ℤ (pos (natAbs a)) (pos (natAbs b)))) (+ℤ-mono (-natAbs-≤ℤ a) (-natAbs-≤ℤ b)))
     (+ℤ-mono (≤ℤ-natAbs a) (≤ℤ-natAbs b))
-

@@ -1,18 +1,18 @@
 -- Binomial coefficients, the powers of a sum, and the binomial theorem over ℤ.
-use mathlib.Core.Path.{_≡_, refl, sym, _∙_, ap, ap₂}
+use mathlib.Core.Path.{_≡_, refl, sym, _∙_, ap}
 use mathlib.Core.List.{[], _∷_}
-use Prim.Native.Nat.{ℕ, zero, suc, _+_, _-_, _^_, _<_, _≤_}
+use Prim.Native.Nat.{ℕ, zero, suc, _+_, _*_, _-_, _^_, _<_, _≤_}
 use native.Mathlib.Nat as Nat
 use native.Mathlib.Decide.{decLt}
 use native.Mathlib.Omega.{arith}
-use lib.IntN.{ℤ, pos, _+ℤ_, _*ℤ_, pow, zero-*ℤ, *ℤ-comm, +ℤ-idr}
-use Rattle.algebra.specs.Sum.{sum, run, _⋯_}
+use lib.IntN.{ℤ, pos, _+ℤ_, _*ℤ_, natAbs, pow, zero-*ℤ, *ℤ-comm, +ℤ-idr}
+use Rattle.algebra.specs.Sum.{sum, sumℕ, run, _⋯_}
 use Rattle.algebra.specs.Binomial.{choose}
 use Rattle.algebra.proofs.Integer.{≡-by, *ℤ-idl, +ℤ-*ℤ, *ℤ-+ℤ, *ℤ-assoc, *ℤ-left-comm}
-use Rattle.algebra.proofs.Power.{pow-zero, pow-suc}
+use Rattle.algebra.proofs.Power.{pow-zero, pow-suc, pos-pow}
 use Rattle.algebra.proofs.Ring.{ring, _⊕_, _⊖_, _⊗_, _≐_}
-use Rattle.algebra.proofs.Sum.{sum-cong, sum-zero, sum-+, *ℤ-sum}
-use Rattle.algebra.proofs.Run.{⋯-run, sum-run-shift}
+use Rattle.algebra.proofs.Sum.{sum-cong, sum-zero, sum-+, *ℤ-sum, pos-sumℕ, sumℕ-member}
+use Rattle.algebra.proofs.Run.{member-⋯, ⋯-run, sum-run-shift}
 
 -- ---- C(n,k)
 pub choose-zero : (n : ℕ) → choose n 0 ≡ 1
@@ -24,7 +24,7 @@ pub choose-over : (n k : ℕ) → n < k → choose n k ≡ 0
 unfolding choose
 choose-over n zero h = omega arith
 choose-over zero (suc k) h = refl
-choose-over (suc n) (suc k) h = ap₂ _+_ (choose-over n k (omega arith)) (choose-over n (suc k) (omega arith))
+choose-over (suc n) (suc k) h = let p = choose-over n k (omega arith) in let q = choose-over n (suc k) (omega arith) in omega arith
 
 pub choose-≤-pow : (n k : ℕ) → choose n k ≤ 2 ^ n
 unfolding choose
@@ -86,3 +86,15 @@ pub binomial : (a b : ℤ) (n : ℕ) → pow (a +ℤ b) n ≡ sum (0 ⋯ n) (λ 
 unfolding shift
 binomial a b n = sym (shift-zero (a +ℤ b) n) ∙ shift-+ a b n (suc n) 0 (Nat.le-refl (suc n))
     ∙ sum-cong (run 0 (suc n)) (λ k m. ap (λ x. shift a n k *ℤ x) (shift-zero b k)) ∙ ap (λ l. sum l (λ k. shift a n k *ℤ pow b k)) (sym (⋯-run n))
+
+-- the same of natural numbers, and the size of one term
+pub binomialℕ : (a b n : ℕ) → (a + b) ^ n ≡ sumℕ (0 ⋯ n) (λ k. choose n k * a ^ (n - k) * b ^ k)
+binomialℕ a b n =
+    let e : pos ((a + b) ^ n) ≡ pos (sumℕ (0 ⋯ n) (λ k. choose n k * a ^ (n - k) * b ^ k)) = rw pos-sumℕ (simp pos-pow at (binomial (pos a) (pos b) n)) in
+    ap natAbs e
+
+pub binomial-term-size : (a b n k : ℕ) → choose n k * a ^ (n - k) * b ^ k ≤ (a + b) ^ n
+binomial-term-size a b n k = elim (decLt n k) [
+  | yes l ↦ rw (choose-over n k l, Nat.zero-mul, Nat.zero-mul) (omega arith)
+  | no l ↦ rw (binomialℕ a b n) (sumℕ-member (λ k. choose n k * a ^ (n - k) * b ^ k) (member-⋯ 0 n k (omega arith) (omega arith)))
+]

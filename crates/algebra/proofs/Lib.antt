@@ -9,5 +9,6 @@ pub mod Absolute
 pub mod MinMax
 pub mod Sum
 pub mod Run
+pub mod Triangle
 pub mod Binomial
 pub mod Samples

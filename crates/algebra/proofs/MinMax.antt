@@ -1,10 +1,11 @@
 -- The larger and the smaller of two integers: bounds, the least and the greatest of their kind.
 use mathlib.Core.Path.{_≡_}
-use lib.IntN.{ℤ, negℤ, negℤ-negℤ}
+use Prim.Native.Nat.{ℕ}
+use lib.IntN.{ℤ, pos, _*ℤ_, negℤ, negℤ-negℤ}
 use lib.Signed.{_≤ℤ_, ltZ, ltZ-yes, ltZ-no, ≤ℤ-refl}
 use Rattle.algebra.specs.MinMax.{minℤ, maxℤ}
 use Rattle.algebra.proofs.Choice.{choice}
-use Rattle.algebra.proofs.Order.{≤ℤ-of-<ℤ, ≤ℤ-antisymm, negℤ-mono}
+use Rattle.algebra.proofs.Order.{≤ℤ-of-<ℤ, ≤ℤ-antisymm, negℤ-mono, nonneg, *ℤ-mono}
 
 pub ≤ℤ-maxℤ : (a b : ℤ) → (a ≤ℤ maxℤ a b) × (b ≤ℤ maxℤ a b)
 unfolding maxℤ
@@ -26,3 +27,9 @@ pub negℤ-minℤ : (a b : ℤ) → negℤ (minℤ a b) ≡ maxℤ (negℤ a) (n
 negℤ-minℤ a b = ≤ℤ-antisymm
     (rw negℤ-negℤ at (negℤ-mono (minℤ-greatest (rw negℤ-negℤ at (negℤ-mono (≤ℤ-maxℤ (negℤ a) (negℤ b) .0))) (rw negℤ-negℤ at (negℤ-mono (≤ℤ-maxℤ (negℤ a) (negℤ b) .1))))))
     (maxℤ-least (negℤ-mono (minℤ-≤ℤ a b .0)) (negℤ-mono (minℤ-≤ℤ a b .1)))
+
+pub *ℤ-minℤ : (c : ℕ) (a b : ℤ) → pos c *ℤ minℤ a b ≡ minℤ (pos c *ℤ a) (pos c *ℤ b)
+unfolding minℤ
+*ℤ-minℤ c a b = ≤ℤ-antisymm
+    (minℤ-greatest (*ℤ-mono (nonneg c) (minℤ-≤ℤ a b .0)) (*ℤ-mono (nonneg c) (minℤ-≤ℤ a b .1)))
+    (choice (λ x. minℤ (pos c *ℤ a) (pos c *ℤ b) ≤ℤ (pos c *ℤ x)) (ltZ a b) a b (λ t. minℤ-≤ℤ (pos c *ℤ a) (pos c *ℤ b) .0) (λ t. minℤ-≤ℤ (pos c *ℤ a) (pos c *ℤ b) .1))

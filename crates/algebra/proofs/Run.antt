@@ -7,9 +7,9 @@ use native.Mathlib.Nat as Nat
 use native.Mathlib.Decide.{decLe}
 use native.Mathlib.Numerals.{add-one}
 use native.Mathlib.Omega.{arith}
-use lib.IntN.{ℤ, pos, _+ℤ_, +ℤ-idl, +ℤ-idr}
+use lib.IntN.{ℤ, pos, _+ℤ_, natAbs, +ℤ-idl, +ℤ-idr}
 use Rattle.algebra.specs.Sum.{sum, sumℕ, run, _⋯_}
-use Rattle.algebra.proofs.Sum.{sum-cong, sum-zero, sum-map, sum-++, sumℕ-part}
+use Rattle.algebra.proofs.Sum.{sum-cong, sum-zero, sum-map, sum-++, pos-sumℕ, sumℕ-part}
 
 -- ---- which numbers they hold
 pub run-member : (a n : ℕ) {i : ℕ} → List·Memᴰ i (run a n) → (a ≤ i) × (i < a + n)
@@ -30,13 +30,17 @@ member-run a (suc n) i h k = elim (decLe i a) [
 
 pub ⋯-member : (a b : ℕ) {i : ℕ} → List·Memᴰ i (a ⋯ b) → (a ≤ i) × (i ≤ b)
 unfolding _⋯_
-⋯-member a b m = let h = run-member a (suc b - a) m in omega arith
+⋯-member a b m = let h = run-member a _ m in omega arith
 
 pub member-⋯ : (a b i : ℕ) → a ≤ i → i ≤ b → List·Memᴰ i (a ⋯ b)
 unfolding _⋯_
-member-⋯ a b i h k = member-run a (suc b - a) i h (omega arith)
+member-⋯ a b i h k = member-run a _ i h (omega arith)
 
 -- ---- their parts
+pub ⋯-none : (a b : ℕ) → b < a → a ⋯ b ≡ []
+unfolding _⋯_ run
+⋯-none a b h = let z : suc b - a ≡ 0 = omega arith in rw z
+
 pub run-++ : (a m n : ℕ) → run a (m + n) ≡ run a m ++ run (a + m) n
 unfolding run
 run-++ a zero n = rw (Nat.zero-add, Nat.add-zero)
@@ -60,20 +64,23 @@ pub sum-run-suc : (a n : ℕ) (f : ℕ → ℤ) → sum (run a (suc n)) f ≡ su
 unfolding sum run
 sum-run-suc a n f = ap (λ l. sum l f) (ap (run a) (sym (add-one n)) ∙ run-++ a n 1) ∙ sum-++ (run a n) (run (a + n) 1) f ∙ ap (λ x. sum (run a n) f +ℤ x) (+ℤ-idr (f (a + n)))
 
+pub sumℕ-run-suc : (a n : ℕ) (g : ℕ → ℕ) → sumℕ (run a (suc n)) g ≡ sumℕ (run a n) g + g (a + n)
+sumℕ-run-suc a n g = ap natAbs (pos-sumℕ (run a (suc n)) g ∙ sum-run-suc a n (λ i. pos (g i)) ∙ ap (λ x. x +ℤ pos (g (a + n))) (sym (pos-sumℕ (run a n) g)))
+
 pub sum-run-shift : (n : ℕ) (f : ℕ → ℤ) → sum (run 0 (suc n)) f ≡ f 0 +ℤ sum (run 0 n) (λ i. f (suc i))
 unfolding sum run
 sum-run-shift n f = ap (λ x. f 0 +ℤ x) (ap (λ l. sum l f) (run-map 0 n) ∙ sum-map suc (run 0 n) f)
 
 -- ---- terms that are zero may be left out
-sum-none : (a n : ℕ) (f : ℕ → ℤ) → ((i : ℕ) → i < a + n → f i ≡ pos 0) → sum (run a n) f ≡ pos 0
-sum-none a n f h = sum-cong (run a n) (λ i m. h i (run-member a n m .1)) ∙ sum-zero (run a n)
+pub sum-none : (a n : ℕ) (f : ℕ → ℤ) → ((i : ℕ) → a ≤ i → i < a + n → f i ≡ pos 0) → sum (run a n) f ≡ pos 0
+sum-none a n f h = sum-cong (run a n) (λ i m. let (l, k) = run-member a n m in h i l k) ∙ sum-zero (run a n)
 
 pub sum-⋯-from : (a b : ℕ) (f : ℕ → ℤ) → ((i : ℕ) → i < a → f i ≡ pos 0) → sum (0 ⋯ b) f ≡ sum (a ⋯ b) f
 unfolding _⋯_
 sum-⋯-from a b f h = elim (decLe a (suc b)) [
   | yes l ↦ let e : suc b - 0 ≡ a + (suc b - a) = omega arith in
-      rw (e, run-++, Nat.zero-add, sum-++, sum-none 0 a f (λ i k. h i (omega arith))) (+ℤ-idl (sum (run a (suc b - a)) f))
-  | no l ↦ let z : suc b - a ≡ 0 = omega arith in rw (z, sum-run-zero) (sum-none 0 (suc b - 0) f (λ i k. h i (omega arith)))
+      rw (e, run-++, Nat.zero-add, sum-++, sum-none 0 a f (λ i l k. h i (omega arith))) (+ℤ-idl (sum (run a (suc b - a)) f))
+  | no l ↦ let z : suc b - a ≡ 0 = omega arith in rw (z, sum-run-zero) (sum-none 0 (suc b - 0) f (λ i l k. h i (omega arith)))
 ]
 
 -- ---- a part of a run has a part of the sum

@@ -5,7 +5,7 @@ use mathlib.Core.List.{List, [], _∷_}
 use Prim.Native.Nat.{ℕ, _≤_, _<_}
 use native.Mathlib.Nat as Nat
 use native.Mathlib.Omega.{arith}
-use lib.Dec.{T, eqb, eqb→eq, leb, leb→le, nleb→lt}
+use lib.Dec.{T, eqb, eqb→eq, leb→le, nleb→lt}
 use lib.IntN.{ℤ, pos, negℤ, natAbs, negℤ-negℤ}
 use Rattle.algebra.specs.MinMax.{minℤ}
 use Rattle.algebra.proofs.Choice.{choice, and-r}
@@ -16,7 +16,7 @@ use Rattle.algebra.proofs.MinMax.{minℤ-≤ℤ, minℤ-greatest, negℤ-minℤ
 use Rattle.algebra.proofs.Sum.{negℤ-sum}
 use Rattle.forms.specs.Vectors.{total, all-even}
 use Rattle.forms.specs.Points.{Point}
-use Rattle.forms.specs.Form.{Form, scaled, value, local, low, high, lower, upper, bent, bend}
+use Rattle.forms.specs.Form.{Form, scaled, value, local, low, high, lower, upper, bends, bent, bend}
 use Rattle.forms.proofs.Vectors.{even-total}
 
 -- ---- the lower bound, by the three cases of its definition
@@ -51,18 +51,18 @@ high-low mode a g = simp (negℤ-cond, negℤ-minℤ, negℤ-negℤ, natAbs-neg�
 pub natAbs-high : (mode : ℕ) (a : List ℕ) (g : ℤ) → natAbs (high mode a g) ≤ natAbs g
 natAbs-high mode a g = rw (high-low, natAbs-negℤ, ← (natAbs-negℤ g)) (natAbs-low mode a (negℤ g))
 
--- ---- the bend: |g| where |a| ≥ 2, and nothing below
-pub bent-many : (a : List ℕ) (g : ℤ) → 2 ≤ total a → bent a g ≡ natAbs g
-unfolding bent
-bent-many a g h = choice (λ n. n ≡ natAbs g) (leb 2 (total a)) (natAbs g) 0 (λ t. refl) (λ t. absurd (let l = nleb→lt 2 (total a) t in omega arith))
-
+-- ---- the bend: nothing where |a| < 2, and |g| from there on
 pub bent-few : (a : List ℕ) (g : ℤ) → total a < 2 → bent a g ≡ 0
 unfolding bent
-bent-few a g h = choice (λ n. n ≡ 0) (leb 2 (total a)) (natAbs g) 0 (λ t. absurd (let l = leb→le 2 (total a) t in omega arith)) (λ t. refl)
+bent-few a g h = choice (λ n. n ≡ 0) (bends a) (natAbs g) 0 (λ t. absurd (omega (arith, leb→le))) (λ t. refl)
+
+pub bent-many : (a : List ℕ) (g : ℤ) → 2 ≤ total a → bent a g ≡ natAbs g
+unfolding bent
+bent-many a g h = choice (λ n. n ≡ natAbs g) (bends a) (natAbs g) 0 (λ t. refl) (λ t. absurd (omega (arith, nleb→lt)))
 
 pub bent-le : (a : List ℕ) (g : ℤ) → bent a g ≤ natAbs g
 unfolding bent
-bent-le a g = choice (λ n. n ≤ natAbs g) (leb 2 (total a)) (natAbs g) 0 (λ t. Nat.le-refl (natAbs g)) (λ t. omega arith)
+bent-le a g = choice (λ n. n ≤ natAbs g) (bends a) (natAbs g) 0 (λ t. Nat.le-refl (natAbs g)) (λ t. omega arith)
 
 -- ---- the opposite form
 abbrev pub opposite : Form → Form

@@ -47,7 +47,7 @@ module _ (F : Form) (u : Point) (H : ℕ) (x : Point) (Q : ℕ) (h : InBox F u H
   -- |offset^a| ≤ (Q H)^|a|
   offset-size : {a : List ℕ} → List·Memᴰ a (indices F) → natAbs (powers offset a) ≤ (Q * H) ^ total a
   unfolding offset
-  offset-size {a} m = powers-size a offset (Q * H) (rw (vectors-fit (F .variables) (F .degree) m .0) h)
+  offset-size {a} m = powers-size a offset (Q * H) (rw (vectors-fit (F .variables) (F .degree) m .0) (λ v i. let b = h v i in omega arith))
 
   low-term : (mode : ℕ) {a : List ℕ} → List·Memᴰ a (indices F) →
       (pow (pos Q) (F .degree) *ℤ low mode a (local F u H a)) ≤ℤ (taylor F u a *ℤ powers offset a *ℤ pow (pos Q) (F .degree - total a))

@@ -5,3 +5,13 @@ pub mod Shift
 pub mod Taylor
 pub mod Bounds
 pub mod Containment
+pub mod Signs
+pub mod Overshoot
+pub mod NoBend
+pub mod Size
+pub mod Parts
+pub mod Depth
+pub mod Coordinates
+pub mod Plane
+pub mod Loops
+pub mod Samples

@@ -29,6 +29,11 @@ each-cons P p q zero i = p
 each-cons P p q (suc v) i = q v (omega arith)
 
 -- ---- equations
+pub powers-agree : (e : List ℕ) (x y : Point) → Each (length e) (λ v. x v ≡ y v) → powers x e ≡ powers y e
+unfolding powers
+powers-agree [] x y h = refl
+powers-agree (i ∷ e) x y h = rw (at-first h, powers-agree e (rest x) (rest y) (at-rest h))
+
 pub powers-zero : (e : List ℕ) (x : Point) → total e ≡ 0 → powers x e ≡ pos 1
 unfolding powers total
 powers-zero [] x h = refl

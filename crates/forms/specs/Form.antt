@@ -1,5 +1,5 @@
 -- A polynomial in any number of variables: its values at fractional points, its local form over a box, and what is read off from that.
-use mathlib.Core.Bool.{_&&_, cond}
+use mathlib.Core.Bool.{Bool, _&&_, cond}
 use mathlib.Core.List.{List}
 use Prim.Native.Nat.{ℕ, _+_, _*_, _-_, _^_, _≤_}
 use mathlib.Core.Path.{_≡_}
@@ -33,6 +33,14 @@ value F x Q = sum (indices F) (λ e. scaled F e *ℤ powers x e *ℤ pow (pos Q)
 abbrev pub InBox : Form → Point → ℕ → Point → ℕ → Type 0
 InBox F u H x Q = Each (F .variables) (λ v. natAbs (x v -ℤ pos Q *ℤ u v) ≤ Q * H)
 
+-- the box meets the curve: at some point with fractional coordinates in it the value is zero
+pub record Meets (F : Form) (u : Point) (H : ℕ) : Type 0 where
+  pub x : Point
+  pub Q : ℕ
+  pub positive : 1 ≤ Q
+  pub inside : InBox F u H x Q
+  pub vanishes : value F x Q ≡ pos 0
+
 -- ---- the local form over the box: G(a), the sum of A(e) S^(d-|e|) C(e,a) u^(e-a) H^|a|
 unfoldable pub local : Form → Point → ℕ → List ℕ → ℤ
 local F u H a = sum (indices F) (λ e. scaled F e *ℤ pos (chooses e a) *ℤ powers u (e ∸ a) *ℤ pow (pos H) (total a))
@@ -52,8 +60,11 @@ unfoldable pub upper : Form → ℕ → Point → ℕ → ℤ
 upper F mode u H = sum (indices F) (λ a. high mode a (local F u H a))
 
 -- ---- the bend: the sum of |G(a)| over |a| ≥ 2
+abbrev pub bends : List ℕ → Bool
+bends a = leb 2 (total a)
+
 unfoldable pub bent : List ℕ → ℤ → ℕ
-bent a g = cond (leb 2 (total a)) (natAbs g) 0
+bent a g = cond (bends a) (natAbs g) 0
 
 unfoldable pub bend : Form → Point → ℕ → ℕ
 bend F u H = sumℕ (indices F) (λ a. bent a (local F u H a))
