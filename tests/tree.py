@@ -1,0 +1,76 @@
+"""The tree keeps its promises about itself.
+
+- docs/PROMISES.md names theorems by file and name: each is declared, and public, in that file.
+- No axiom and no hole stands in a crate.
+- No file of a crate is over 400 lines.
+- No tracked file speaks of a place on somebody's machine.
+"""
+import pathlib
+import re
+import subprocess
+import sys
+
+ROOT = pathlib.Path(__file__).resolve().parent.parent
+LONGEST = 400
+CITED = re.compile(r"`(crates/[^`]+\.antt)`((?:,? `[^`]+`)+)")
+PLACES = re.compile("/(?:" + "|".join(("opt", "home", "root", "work", "tmp", "usr")) + ")/")
+
+
+def sources():
+    return sorted(p for p in ROOT.glob("crates/**/*") if p.suffix in (".antt", ".rt") and p.is_file())
+
+
+def code_of(path):
+    """A file's lines without their comments."""
+    mark = "--" if path.suffix == ".antt" else "//"
+    return [line.split(mark)[0] for line in path.read_text().splitlines()]
+
+
+def promises():
+    cited = 0
+    for file, names in CITED.findall((ROOT / "docs" / "PROMISES.md").read_text()):
+        path = ROOT / file
+        text = path.read_text() if path.exists() else ""
+        for name in re.findall(r"`([^`]+)`", names):
+            cited += 1
+            if not re.search(rf"^\s*((unfoldable|abbrev) )*pub (record )?{re.escape(name)} ", text, re.M):
+                yield f"docs/PROMISES.md cites {name}, which {file} does not declare"
+    if not cited:
+        yield "docs/PROMISES.md cites no theorem"
+
+
+def axioms_and_holes():
+    for path in sources():
+        for number, line in enumerate(code_of(path), 1):
+            if re.search(r"^\s*axiom |Prim\.Axiom|(^|[ (])\?[a-z0-9₀-₉]*([ ),]|$)|\{!", line):
+                yield f"{path.relative_to(ROOT)}:{number} has an axiom or a hole"
+
+
+def lengths():
+    for path in sources():
+        count = len(path.read_text().splitlines())
+        if count > LONGEST:
+            yield f"{path.relative_to(ROOT)} has {count} lines, over {LONGEST}"
+
+
+def places():
+    tracked = subprocess.run(["git", "ls-files", "-co", "--exclude-standard"], cwd=ROOT, capture_output=True, text=True, check=True).stdout.split("\n")
+    for name in filter(None, tracked):
+        path = ROOT / name
+        if not path.is_file():
+            continue
+        for number, line in enumerate(path.read_text(errors="replace").splitlines(), 1):
+            if PLACES.search(line) and "#!/usr/bin/env" not in line:
+                yield f"{name}:{number} names a place on a machine"
+
+
+def main():
+    faults = [fault for check in (promises, axioms_and_holes, lengths, places) for fault in check()]
+    for fault in faults:
+        print(fault)
+    print(f"tree: {len(faults)} faults in {len(sources())} source files")
+    return 1 if faults else 0
+
+
+if __name__ == "__main__":
+    sys.exit(main())
