@@ -2,7 +2,7 @@
 
 - docs/PROMISES.md names theorems by file and name: each is declared, and public, in that file.
 - No axiom and no hole stands in a crate.
-- No file of a crate is over 400 lines.
+- No file of a crate is over 400 lines, and none brings in a name that it does not use.
 - No tracked file speaks of a place on somebody's machine.
 """
 import pathlib
@@ -53,6 +53,21 @@ def lengths():
             yield f"{path.relative_to(ROOT)} has {count} lines, over {LONGEST}"
 
 
+def imports():
+    for path in sources():
+        if path.suffix != ".antt":
+            continue
+        lines = code_of(path)
+        body = "\n".join(line for line in lines if not line.startswith("use "))
+        words = set(re.findall(r'[^\s(){}.;,@"«»]+', body))
+        for number, line in enumerate(lines, 1):
+            found = re.match(r"use \S+?\.\{(.*)\}\s*$", line)
+            for item in found[1].split(",") if found else ():
+                name = item.split(" as ")[-1].strip()
+                if name not in words and not all(part in words for part in name.split("_") if part):
+                    yield f"{path.relative_to(ROOT)}:{number} brings in {name} and does not use it"
+
+
 def places():
     tracked = subprocess.run(["git", "ls-files", "-co", "--exclude-standard"], cwd=ROOT, capture_output=True, text=True, check=True).stdout.split("\n")
     for name in filter(None, tracked):
@@ -65,7 +80,7 @@ def places():
 
 
 def main():
-    faults = [fault for check in (promises, axioms_and_holes, lengths, places) for fault in check()]
+    faults = [fault for check in (promises, axioms_and_holes, lengths, imports, places) for fault in check()]
     for fault in faults:
         print(fault)
     print(f"tree: {len(faults)} faults in {len(sources())} source files")

@@ -1,8 +1,8 @@
 -- ℤ, the kit's `lib.IntN`, is a commutative ring. The laws of the product that the kit lacks are proved by steps of one from zero.
 -- A name reads as its left side does: `+ℤ-*ℤ` is of (a + b) * c, `*ℤ-+ℤ` of a * (b + c).
-use mathlib.Core.Path.{_≡_, refl, sym, _∙_, ap}
-use Prim.Native.Nat.{ℕ, zero, suc}
-use lib.IntN.{ℤ, pos, negsuc, sucℤ, predℤ, _+ℤ_, _-ℤ_, _*ℤ_, -ℤ-+ℤ-cancel, negℤ, one, +ℤ-comm, +ℤ-assoc, +ℤ-idl, +ℤ-idr, +ℤ-invl, +ℤ-invr, sucℤ-+ℤ, predℤ-+ℤ, sucℤ-*ℤ, predℤ-*ℤ, zero-*ℤ, *ℤ-one, *ℤ-comm}
+use mathlib.Core.Path.{_≡_, sym, _∙_, ap}
+use Prim.Native.Nat.{zero, suc}
+use lib.IntN.{ℤ, pos, negsuc, sucℤ, predℤ, _+ℤ_, _-ℤ_, _*ℤ_, -ℤ-+ℤ-cancel, negℤ, one, +ℤ-comm, +ℤ-assoc, +ℤ-idl, +ℤ-invl, +ℤ-invr, sucℤ-+ℤ, predℤ-+ℤ, sucℤ-*ℤ, predℤ-*ℤ, zero-*ℤ, *ℤ-one, *ℤ-comm}
 
 -- what holds of zero, and at k + 1 and k - 1 wherever it holds at k, holds of every integer
 by-steps : (P : ℤ → Type 0) → P (pos zero) → ((k : ℤ) → P k → P (sucℤ k)) → ((k : ℤ) → P k → P (predℤ k)) → (k : ℤ) → P k

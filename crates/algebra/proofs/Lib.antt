@@ -5,6 +5,7 @@ pub mod Power
 pub mod Polynomial
 pub mod Ring
 pub mod Order
+pub mod OrderedRing
 pub mod Absolute
 pub mod MinMax
 pub mod Sum

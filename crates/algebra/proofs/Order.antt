@@ -5,13 +5,13 @@ use mathlib.Core.Path.{_≡_, refl, sym, _∙_, ap, ap₂, subst}
 use mathlib.Core.Bool.{Bool, true, false, not, cond}
 use mathlib.Core.Logic.{_⊎_, inl, inr, _↔_}
 use mathlib.Core.List.{[], _∷_}
-use Prim.Native.Nat.{ℕ, zero, suc, _+_, _*_, _-_, _^_, _≤_, _<_}
+use Prim.Native.Nat.{ℕ, zero, suc, _+_, _*_, _-_, _≤_, _<_}
 use native.Mathlib.Nat as Nat
 use native.Mathlib.Omega.{arith}
 use lib.Dec.{T, ltb, leb→le, le→leb, lt→ltb, leb·zero, leb·suc-zero, leb·suc-suc}
-use lib.IntN.{ℤ, pos, negsuc, _+ℤ_, _-ℤ_, _*ℤ_, negℤ, natAbs, pow, sucℤ, +ℤ-one, +ℤ-assoc, +ℤ-idl, +ℤ-idr, +ℤ-invl, negℤ-+ℤ, negℤ-negℤ, *ℤ-comm}
+use lib.IntN.{ℤ, pos, negsuc, _+ℤ_, _-ℤ_, _*ℤ_, negℤ, natAbs, pow, sucℤ, +ℤ-one, +ℤ-assoc, +ℤ-idl, +ℤ-idr, +ℤ-invl, negℤ-+ℤ, *ℤ-comm}
 use lib.Signed.{_≤ℤ_, _<ℤ_, leZ, ltZ, leZ-yes, ltZ-yes, ltZ-no, ≤ℤ-refl, <ℤ-≤ℤ-trans, <ℤ-irrefl}
-use Rattle.algebra.proofs.Integer.{+ℤ-medial, +ℤ-right-comm, +ℤ-cancel-l}
+use Rattle.algebra.proofs.Integer.{+ℤ-medial, +ℤ-cancel-l}
 use Rattle.algebra.proofs.Power.{pow-zero, pow-suc, pow-+}
 use Rattle.algebra.proofs.Ring.{ring, _⊕_, _⊖_, _⊗_, ⊝_, #_, _≐_}
 

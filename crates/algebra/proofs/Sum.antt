@@ -109,9 +109,6 @@ module _ {ℓ} {A : Type ℓ} where
   natAbs-sum-le xs f h = Nat.le-trans (natAbs-sum xs f) (sumℕ-mono xs h)
 
 module _ {ℓ κ} {A : Type ℓ} {B : Type κ} where
-  pub sumℕ-map : (h : A → B) (xs : List A) (f : B → ℕ) → sumℕ (map h xs) f ≡ sumℕ xs (λ x. f (h x))
-  sumℕ-map h xs f = ap natAbs (pos-sumℕ (map h xs) f ∙ sum-map h xs (λ y. pos (f y)) ∙ sym (pos-sumℕ xs (λ x. f (h x))))
-
   pub sumℕ-swap : (xs : List A) (ys : List B) (f : A → B → ℕ) → sumℕ xs (λ x. sumℕ ys (λ y. f x y)) ≡ sumℕ ys (λ y. sumℕ xs (λ x. f x y))
   sumℕ-swap xs ys f =
       let e : pos (sumℕ xs (λ x. sumℕ ys (λ y. f x y))) ≡ pos (sumℕ ys (λ y. sumℕ xs (λ x. f x y))) = simp pos-sumℕ (sum-swap xs ys (λ x y. pos (f x y))) in

@@ -2,10 +2,10 @@
 use mathlib.Core.Path.{_≡_, _∙_, ap}
 use mathlib.Core.List.{List}
 use Prim.Native.Nat.{ℕ, _-_}
-use lib.IntN.{ℤ, pos, _*ℤ_, pow}
+use lib.IntN.{pos, _*ℤ_, pow}
 use Rattle.algebra.proofs.Sum.{sum-cong}
 use Rattle.forms.specs.Vectors.{total, chooses, _∸_}
-use Rattle.forms.specs.Points.{Point, Each, powers}
+use Rattle.forms.specs.Points.{Point, Each}
 use Rattle.forms.specs.Form.{Form, indices, scaled, value, local}
 use Rattle.forms.proofs.Vectors.{vectors-fit, length-∸}
 use Rattle.forms.proofs.Points.{powers-agree}

@@ -1,12 +1,10 @@
 -- For programs in the plane: the sums that two loop counters have passed, and the products within one term, are at most the weight.
-use mathlib.Core.Path.{_≡_, sym, _∙_, ap}
 use mathlib.Core.Logic.{_≢_}
 use mathlib.Core.List.{[], _∷_}
-use Prim.Native.Nat.{ℕ, zero, suc, _+_, _*_, _-_, _^_, _≤_}
+use Prim.Native.Nat.{ℕ, suc, _+_, _*_, _-_, _^_, _≤_}
 use native.Mathlib.Nat as Nat
-use native.Mathlib.Omega.{arith}
 use lib.IntN.{ℤ, pos, _*ℤ_, natAbs, pow}
-use Rattle.algebra.specs.Sum.{sumℕ, _⋯_}
+use Rattle.algebra.specs.Sum.{_⋯_}
 use Rattle.algebra.specs.Binomial.{choose}
 use Rattle.algebra.proofs.Absolute.{natAbs-*ℤ, natAbs-pow}
 use Rattle.algebra.proofs.Binomial.{binomial-term-size}

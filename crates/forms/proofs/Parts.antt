@@ -1,10 +1,10 @@
 -- The parts of a box: a box of half-side 2 H and centre u has the parts of half-side H and centres u + H σ, for signs σ.
 use mathlib.Core.Path.{_≡_, sym, _∙_, ap}
 use mathlib.Core.List.{List, [], _∷_, List·Memᴰ}
-use Prim.Native.Nat.{ℕ, _+_, _*_, _^_, _≤_}
+use Prim.Native.Nat.{ℕ, _*_, _^_, _≤_}
 use native.Mathlib.Nat as Nat
 use native.Mathlib.Omega.{arith}
-use lib.IntN.{ℤ, pos, _+ℤ_, _-ℤ_, _*ℤ_, negℤ, natAbs, pow}
+use lib.IntN.{pos, _+ℤ_, _-ℤ_, _*ℤ_, negℤ, natAbs, pow}
 use lib.ListN.{length}
 use Rattle.algebra.specs.Sum.{sum, sumℕ}
 use Rattle.algebra.proofs.Integer.{≡-by, *ℤ-assoc}

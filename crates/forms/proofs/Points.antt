@@ -1,7 +1,7 @@
 -- The powers x^e of a point: of a multiple, of equal coordinates, of absolute values, at even exponents, and their size.
 use mathlib.Core.Path.{_≡_, refl, sym}
 use mathlib.Core.List.{List, [], _∷_}
-use Prim.Native.Nat.{ℕ, zero, suc, _+_, _*_, _^_, _/_, _≤_}
+use Prim.Native.Nat.{ℕ, zero, suc, _*_, _^_, _/_, _≤_}
 use native.Mathlib.Nat as Nat
 use native.Mathlib.Omega.{arith}
 use lib.Dec.{T}

@@ -7,7 +7,7 @@ use native.Mathlib.Decide.{decLt}
 use native.Mathlib.Omega.{arith}
 use lib.IntN.{ℤ, pos, _+ℤ_, _*ℤ_, pow, zero-*ℤ}
 use lib.ListN.{length}
-use Rattle.algebra.specs.Sum.{sum, run, _⋯_}
+use Rattle.algebra.specs.Sum.{sum, _⋯_}
 use Rattle.algebra.specs.Binomial.{choose}
 use Rattle.algebra.proofs.Integer.{*ℤ-idl}
 use Rattle.algebra.proofs.Power.{pow-+}

@@ -3,7 +3,7 @@
 use mathlib.Core.Path.{_≡_, sym, _∙_, ap, subst}
 use mathlib.Core.Logic.{_≢_}
 use mathlib.Core.List.{List, [], _∷_, List·Memᴰ}
-use Prim.Native.Nat.{ℕ, _+_, _*_, _-_, _^_, _≤_, _<_}
+use Prim.Native.Nat.{ℕ, _+_, _*_, _-_, _^_, _≤_}
 use native.Mathlib.Nat as Nat
 use native.Mathlib.Omega.{arith}
 use lib.IntN.{ℤ, pos, _+ℤ_, _-ℤ_, _*ℤ_, natAbs, pow}
@@ -16,7 +16,7 @@ use Rattle.algebra.proofs.Ring.{ring, _⊕_, _⊖_, _⊗_, #_, _≐_}
 use Rattle.algebra.proofs.Sum.{sum-cong, *ℤ-sum, pos-sumℕ, sumℕ-cong, sumℕ-mono, sumℕ-member, *-sumℕ, sumℕ-swap, natAbs-sum, natAbs-sum-le}
 use Rattle.forms.specs.Vectors.{total, chooses, _∸_}
 use Rattle.forms.specs.Points.{Point, Each, powers, powersℕ}
-use Rattle.forms.specs.Form.{Form, indices, scaled, value, InBox, local, low, high, lower, upper, bent, bend, weight, Limited, Signs, corner}
+use Rattle.forms.specs.Form.{Form, indices, scaled, value, InBox, local, low, high, lower, upper, bend, weight, Limited, Signs, corner}
 use Rattle.forms.proofs.Vectors.{vectors-fit}
 use Rattle.forms.proofs.Points.{natAbs-powers, powers-equal, pos-powersℕ, powersℕ-*, powersℕ-mono}
 use Rattle.forms.proofs.Shift.{shifts, powers-+}
