@@ -3,7 +3,7 @@ use mathlib.Core.Path.{_≡_, refl, sym, _∙_, ap}
 use Prim.Native.Nat.{ℕ, zero, suc, _+_, _*_, _^_, _≤_}
 use native.Mathlib.Nat as Nat
 use native.Mathlib.Omega.{arith}
-use lib.IntN.{ℤ, pos, negsuc, _+ℤ_, _*ℤ_, negℤ, natAbs, pow, negℤ-+ℤ, negℤ-negℤ}
+use lib.IntN.{ℤ, pos, negsuc, _+ℤ_, _-ℤ_, _*ℤ_, negℤ, natAbs, pow, negℤ-+ℤ, negℤ-negℤ}
 use lib.Signed.{_≤ℤ_, leZ-yes, ≤ℤ-refl}
 use Rattle.algebra.proofs.Power.{pow-zero, pow-suc}
 use Rattle.algebra.proofs.Order.{≤ℤ-of-≡, ≤ℤ-trans, +ℤ-mono, negℤ-mono, pos-cancel}
@@ -42,3 +42,8 @@ pub natAbs-+ℤ : (a b : ℤ) → natAbs (a +ℤ b) ≤ natAbs a + natAbs b
 natAbs-+ℤ a b = natAbs-bound
     (≤ℤ-trans (≤ℤ-of-≡ (negℤ-+ℤ (pos (natAbs a)) (pos (natAbs b)))) (+ℤ-mono (-natAbs-≤ℤ a) (-natAbs-≤ℤ b)))
     (+ℤ-mono (≤ℤ-natAbs a) (≤ℤ-natAbs b))
+
+-- where both ends a - h and a + h are at most n, so is |a| + h
+pub natAbs-ends : (a : ℤ) (h n : ℕ) → natAbs (a -ℤ pos h) ≤ n → natAbs (a +ℤ pos h) ≤ n → natAbs a + h ≤ n
+natAbs-ends (pos m) h n p q = q
+natAbs-ends (negsuc m) h n p q = rw (ap natAbs (sym (negℤ-+ℤ (pos (suc m)) (pos h))) ∙ natAbs-negℤ (pos (suc m + h))) at p

@@ -7,9 +7,10 @@ use native.Mathlib.Decide.{decLt}
 use native.Mathlib.Omega.{arith}
 use lib.IntN.{ℤ, pos, _+ℤ_, _*ℤ_, natAbs, pow, zero-*ℤ, *ℤ-comm, +ℤ-idr}
 use Rattle.algebra.specs.Sum.{sum, sumℕ, run, _⋯_}
-use Rattle.algebra.specs.Binomial.{choose}
+use Rattle.algebra.specs.Binomial.{choose, entry}
 use Rattle.algebra.proofs.Integer.{≡-by, *ℤ-idl, +ℤ-*ℤ, *ℤ-+ℤ, *ℤ-assoc, *ℤ-left-comm}
 use Rattle.algebra.proofs.Power.{pow-zero, pow-suc, pos-pow}
+use Rattle.algebra.proofs.Absolute.{natAbs-*ℤ, natAbs-pow}
 use Rattle.algebra.proofs.Ring.{ring, _⊕_, _⊖_, _⊗_, _≐_}
 use Rattle.algebra.proofs.Sum.{sum-cong, sum-zero, sum-+, *ℤ-sum, pos-sumℕ, sumℕ-member}
 use Rattle.algebra.proofs.Run.{member-⋯, ⋯-run, sum-run-shift}
@@ -93,8 +94,33 @@ binomialℕ a b n =
     let e : pos ((a + b) ^ n) ≡ pos (sumℕ (0 ⋯ n) (λ k. choose n k * a ^ (n - k) * b ^ k)) = rw pos-sumℕ (simp pos-pow at (binomial (pos a) (pos b) n)) in
     ap natAbs e
 
-pub binomial-term-size : (a b n k : ℕ) → choose n k * a ^ (n - k) * b ^ k ≤ (a + b) ^ n
+binomial-term-size : (a b n k : ℕ) → choose n k * a ^ (n - k) * b ^ k ≤ (a + b) ^ n
 binomial-term-size a b n k = elim (decLt n k) [
   | yes l ↦ rw (choose-over n k l, Nat.zero-mul, Nat.zero-mul) (omega arith)
   | no l ↦ rw (binomialℕ a b n) (sumℕ-member (λ k. choose n k * a ^ (n - k) * b ^ k) (member-⋯ 0 n k (omega arith) (omega arith)))
 ]
+
+-- ---- the tables of C(n,k) u^(n-k) H^k
+module _ (u : ℤ) (H : ℕ) where
+  entry-shift : (n k : ℕ) → entry u H n k ≡ shift u n k *ℤ pow (pos H) k
+  unfolding entry shift
+  entry-shift n k = refl
+
+  pub entry-over : (n k : ℕ) → n < k → entry u H n k ≡ pos 0
+  entry-over n k h = rw (entry-shift, shift-over u n k h) (zero-*ℤ (pow (pos H) k))
+
+  -- row by row, by Pascal's rule
+  pub entry-first : entry u H 0 0 ≡ pos 1
+  entry-first = simp (entry-shift, shift-zero, pow-zero)
+
+  pub entry-suc-zero : (n : ℕ) → entry u H (suc n) 0 ≡ u *ℤ entry u H n 0
+  entry-suc-zero n = simp (entry-shift, shift-suc-zero, *ℤ-assoc)
+
+  pub entry-suc : (n k : ℕ) → entry u H (suc n) (suc k) ≡ pos H *ℤ entry u H n k +ℤ u *ℤ entry u H n (suc k)
+  entry-suc n k = rw (entry-shift (suc n) (suc k), entry-shift n k, entry-shift n (suc k), shift-suc u n k, pow-suc (pos H) k)
+      (ring (u ∷ pos H ∷ shift u n k ∷ shift u n (suc k) ∷ pow (pos H) k ∷ []) (λ u h s t p. (s ⊕ u ⊗ t) ⊗ (p ⊗ h) ≐ h ⊗ (s ⊗ p) ⊕ u ⊗ (t ⊗ (p ⊗ h))) tt)
+
+  -- each entry is at most (|u| + H)^n
+  pub entry-size : (n k : ℕ) → natAbs (entry u H n k) ≤ (natAbs u + H) ^ n
+  unfolding entry
+  entry-size n k = simp (natAbs-*ℤ, natAbs-pow) (binomial-term-size (natAbs u) H n k)

@@ -24,6 +24,10 @@ pub *ℤ-pow : (a b : ℤ) (n : ℕ) → pow (a *ℤ b) n ≡ pow a n *ℤ pow b
 *ℤ-pow a b zero = simp pow-zero
 *ℤ-pow a b (suc n) = simp (pow-suc, *ℤ-pow a b n, *ℤ-assoc) (rw (*ℤ-left-comm (pow b n) a b))
 
+pub pow-* : (a : ℤ) (m n : ℕ) → pow a (m * n) ≡ pow (pow a m) n
+pow-* a m zero = simp (Nat.mul-zero, pow-zero)
+pow-* a m (suc n) = simp (Nat.mul-suc, pow-suc, pow-+, pow-* a m n)
+
 pub one-pow : (n : ℕ) → pow (pos 1) n ≡ pos 1
 one-pow zero = pow-zero (pos 1)
 one-pow (suc n) = simp (pow-suc, one-pow n)

@@ -1,18 +1,17 @@
--- Runs of whole numbers, and sums over them: the parts that a loop has passed, and terms that are zero.
+-- Runs and ranges of whole numbers, and sums over them: one step of a loop, terms that are zero, and parts.
 use mathlib.Core.Path.{_≡_, refl, sym, _∙_, ap}
 use mathlib.Core.Logic.{inl, inr}
 use mathlib.Core.List.{[], _∷_, _++_, map, List·Memᴰ, List·Memᴰ·head, List·Memᴰ·tail, List·Memᴰ·not-nil, List·Memᴰ·cases-cons}
 use Prim.Native.Nat.{ℕ, zero, suc, _+_, _-_, _≤_, _<_}
 use native.Mathlib.Nat as Nat
 use native.Mathlib.Decide.{decLe}
-use native.Mathlib.Numerals.{add-one}
 use native.Mathlib.Omega.{arith}
 use lib.IntN.{ℤ, pos, _+ℤ_, natAbs, +ℤ-idl, +ℤ-idr}
-use Rattle.algebra.specs.Sum.{sum, sumℕ, run, _⋯_}
+use Rattle.algebra.specs.Sum.{sum, sumℕ, run, span, _⋯_}
 use Rattle.algebra.proofs.Sum.{sum-cong, sum-zero, sum-map, sum-++, pos-sumℕ, sumℕ-part}
 
 -- ---- which numbers they hold
-pub run-member : (a n : ℕ) {i : ℕ} → List·Memᴰ i (run a n) → (a ≤ i) × (i < a + n)
+run-member : (a n : ℕ) {i : ℕ} → List·Memᴰ i (run a n) → (a ≤ i) × (i < a + n)
 unfolding run
 run-member a zero m = absurd (List·Memᴰ·not-nil m)
 run-member a (suc n) m = elim (List·Memᴰ·cases-cons m) [
@@ -20,7 +19,7 @@ run-member a (suc n) m = elim (List·Memᴰ·cases-cons m) [
   | inr r ↦ let h = run-member (suc a) n r in omega arith
 ]
 
-pub member-run : (a n i : ℕ) → a ≤ i → i < a + n → List·Memᴰ i (run a n)
+member-run : (a n i : ℕ) → a ≤ i → i < a + n → List·Memᴰ i (run a n)
 unfolding run
 member-run a zero i h k = absurd (omega arith)
 member-run a (suc n) i h k = elim (decLe i a) [
@@ -28,63 +27,88 @@ member-run a (suc n) i h k = elim (decLe i a) [
   | no l ↦ List·Memᴰ·tail (member-run (suc a) n i (omega arith) (omega arith))
 ]
 
+pub span-member : (a n : ℕ) {i : ℕ} → List·Memᴰ i (span a n) → (a ≤ i) × (i < n)
+unfolding span
+span-member a n m = let h = run-member a _ m in omega arith
+
+pub member-span : (a n i : ℕ) → a ≤ i → i < n → List·Memᴰ i (span a n)
+unfolding span
+member-span a n i h k = member-run a _ i h (omega arith)
+
 pub ⋯-member : (a b : ℕ) {i : ℕ} → List·Memᴰ i (a ⋯ b) → (a ≤ i) × (i ≤ b)
 unfolding _⋯_
-⋯-member a b m = let h = run-member a _ m in omega arith
+⋯-member a b m = let h = span-member a _ m in omega arith
 
 pub member-⋯ : (a b i : ℕ) → a ≤ i → i ≤ b → List·Memᴰ i (a ⋯ b)
 unfolding _⋯_
-member-⋯ a b i h k = member-run a _ i h (omega arith)
+member-⋯ a b i h k = member-span a _ i h (omega arith)
 
 -- ---- their parts
-pub ⋯-none : (a b : ℕ) → b < a → a ⋯ b ≡ []
-unfolding _⋯_ run
-⋯-none a b h = let z : suc b - a ≡ 0 = omega arith in rw z
-
-pub run-++ : (a m n : ℕ) → run a (m + n) ≡ run a m ++ run (a + m) n
+run-++ : (a m n : ℕ) → run a (m + n) ≡ run a m ++ run (a + m) n
 unfolding run
 run-++ a zero n = rw (Nat.zero-add, Nat.add-zero)
 run-++ a (suc m) n = rw (Nat.suc-add, run-++ (suc a) m n, Nat.suc-add, Nat.add-suc)
 
+pub span-++ : (a m n : ℕ) → a ≤ m → m ≤ n → span a n ≡ span a m ++ span m n
+unfolding span
+span-++ a m n h k =
+    let e : n - a ≡ (m - a) + (n - m) = omega arith in let f : a + (m - a) ≡ m = omega arith in
+    ap (run a) e ∙ run-++ a (m - a) (n - m) ∙ ap (λ x. run a (m - a) ++ run x (n - m)) f
+
+pub span-none : (a n : ℕ) → n ≤ a → span a n ≡ []
+unfolding span run
+span-none a n h = let z : n - a ≡ 0 = omega arith in rw z
+
+pub span-one : (n : ℕ) → span n (n + 1) ≡ n ∷ []
+unfolding span run
+span-one n = let z : (n + 1) - n ≡ 1 = omega arith in rw z
+
+pub span-next : (a n : ℕ) → a ≤ n → span a (n + 1) ≡ span a n ++ (n ∷ [])
+span-next a n h = span-++ a n (n + 1) h (omega arith) ∙ ap (λ l. span a n ++ l) (span-one n)
+
 pub ⋯-run : (b : ℕ) → 0 ⋯ b ≡ run 0 (suc b)
-unfolding _⋯_
+unfolding _⋯_ span
 ⋯-run b = rw Nat.sub-zero
 
+-- ---- sums over them: nothing at first, and one term more at each step
+pub sum-span-none : (a n : ℕ) (f : ℕ → ℤ) → n ≤ a → sum (span a n) f ≡ pos 0
+unfolding sum
+sum-span-none a n f h = ap (λ l. sum l f) (span-none a n h)
+
+pub sum-span-next : (a n : ℕ) (f : ℕ → ℤ) → a ≤ n → sum (span a (n + 1)) f ≡ sum (span a n) f +ℤ f n
+unfolding sum
+sum-span-next a n f h = ap (λ l. sum l f) (span-next a n h) ∙ sum-++ (span a n) (n ∷ []) f ∙ ap (λ x. sum (span a n) f +ℤ x) (+ℤ-idr (f n))
+
+pub sumℕ-span-none : (a n : ℕ) (g : ℕ → ℕ) → n ≤ a → sumℕ (span a n) g ≡ 0
+sumℕ-span-none a n g h = ap natAbs (pos-sumℕ (span a n) g ∙ sum-span-none a n (λ i. pos (g i)) h)
+
+pub sumℕ-span-next : (a n : ℕ) (g : ℕ → ℕ) → a ≤ n → sumℕ (span a (n + 1)) g ≡ sumℕ (span a n) g + g n
+sumℕ-span-next a n g h = ap natAbs (pos-sumℕ (span a (n + 1)) g ∙ sum-span-next a n (λ i. pos (g i)) h ∙ ap (λ x. x +ℤ pos (g n)) (sym (pos-sumℕ (span a n) g)))
+
+-- the first term apart
 run-map : (a n : ℕ) → run (suc a) n ≡ map suc (run a n)
 unfolding run
 run-map a zero = refl
 run-map a (suc n) = ap (λ l. suc a ∷ l) (run-map (suc a) n)
-
--- ---- sums over them: one term more at the end, the first term apart
-pub sum-run-zero : (a : ℕ) (f : ℕ → ℤ) → sum (run a 0) f ≡ pos 0
-unfolding sum run
-sum-run-zero a f = refl
-
-pub sum-run-suc : (a n : ℕ) (f : ℕ → ℤ) → sum (run a (suc n)) f ≡ sum (run a n) f +ℤ f (a + n)
-unfolding sum run
-sum-run-suc a n f = ap (λ l. sum l f) (ap (run a) (sym (add-one n)) ∙ run-++ a n 1) ∙ sum-++ (run a n) (run (a + n) 1) f ∙ ap (λ x. sum (run a n) f +ℤ x) (+ℤ-idr (f (a + n)))
-
-pub sumℕ-run-suc : (a n : ℕ) (g : ℕ → ℕ) → sumℕ (run a (suc n)) g ≡ sumℕ (run a n) g + g (a + n)
-sumℕ-run-suc a n g = ap natAbs (pos-sumℕ (run a (suc n)) g ∙ sum-run-suc a n (λ i. pos (g i)) ∙ ap (λ x. x +ℤ pos (g (a + n))) (sym (pos-sumℕ (run a n) g)))
 
 pub sum-run-shift : (n : ℕ) (f : ℕ → ℤ) → sum (run 0 (suc n)) f ≡ f 0 +ℤ sum (run 0 n) (λ i. f (suc i))
 unfolding sum run
 sum-run-shift n f = ap (λ x. f 0 +ℤ x) (ap (λ l. sum l f) (run-map 0 n) ∙ sum-map suc (run 0 n) f)
 
 -- ---- terms that are zero may be left out
-pub sum-none : (a n : ℕ) (f : ℕ → ℤ) → ((i : ℕ) → a ≤ i → i < a + n → f i ≡ pos 0) → sum (run a n) f ≡ pos 0
-sum-none a n f h = sum-cong (run a n) (λ i m. let (l, k) = run-member a n m in h i l k) ∙ sum-zero (run a n)
+pub sum-span-zero : (a n : ℕ) (f : ℕ → ℤ) → ((i : ℕ) → a ≤ i → i < n → f i ≡ pos 0) → sum (span a n) f ≡ pos 0
+sum-span-zero a n f h = sum-cong (span a n) (λ i m. let (l, k) = span-member a n m in h i l k) ∙ sum-zero (span a n)
 
 pub sum-⋯-from : (a b : ℕ) (f : ℕ → ℤ) → ((i : ℕ) → i < a → f i ≡ pos 0) → sum (0 ⋯ b) f ≡ sum (a ⋯ b) f
 unfolding _⋯_
 sum-⋯-from a b f h = elim (decLe a (suc b)) [
-  | yes l ↦ let e : suc b - 0 ≡ a + (suc b - a) = omega arith in
-      rw (e, run-++, Nat.zero-add, sum-++, sum-none 0 a f (λ i l k. h i (omega arith))) (+ℤ-idl (sum (run a (suc b - a)) f))
-  | no l ↦ let z : suc b - a ≡ 0 = omega arith in rw (z, sum-run-zero) (sum-none 0 (suc b - 0) f (λ i l k. h i (omega arith)))
+  | yes l ↦ rw (span-++ 0 a (suc b) (omega arith) l, sum-++, sum-span-zero 0 a f (λ i l k. h i k)) (+ℤ-idl (sum (span a (suc b)) f))
+  | no l ↦ sum-span-zero 0 (suc b) f (λ i p k. h i (omega arith)) ∙ sym (sum-span-none a (suc b) f (omega arith))
 ]
 
--- ---- a part of a run has a part of the sum
-pub sumℕ-run-part : (a m : ℕ) {n : ℕ} (g : ℕ → ℕ) → a + m ≤ n → sumℕ (run a m) g ≤ sumℕ (run 0 n) g
-sumℕ-run-part a m {n} g h =
-    let e : n ≡ a + (m + (n - (a + m))) = omega arith in
-    rw (e, run-++ 0 a, Nat.zero-add, run-++ a m) (sumℕ-part (run 0 a) (run a m) (run (a + m) (n - (a + m))) g)
+-- ---- a part of a range has a part of the sum
+pub sumℕ-span-part : (a n : ℕ) {m : ℕ} (g : ℕ → ℕ) → n ≤ m → sumℕ (span a n) g ≤ sumℕ (span 0 m) g
+sumℕ-span-part a n {m} g h = elim (decLe a n) [
+  | yes l ↦ rw (span-++ 0 a m (omega arith) (omega arith), span-++ a n m l h) (sumℕ-part (span 0 a) (span a n) (span n m) g)
+  | no l ↦ rw (sumℕ-span-none a n g (omega arith)) (omega arith)
+]

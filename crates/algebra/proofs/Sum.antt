@@ -99,11 +99,14 @@ module _ {ℓ} {A : Type ℓ} where
   pub sumℕ-part : (before xs after : List A) (f : A → ℕ) → sumℕ xs f ≤ sumℕ (before ++ (xs ++ after)) f
   sumℕ-part before xs after f = rw (sumℕ-++ before, sumℕ-++ xs) (Nat.le-trans (Nat.le-add-right (sumℕ xs f) (sumℕ after f)) (Nat.le-add-left _ (sumℕ before f)))
 
-  -- the triangle inequality, also with a bound for each term
+  -- the triangle inequality, also of a part of a list, and with a bound for each term
   pub natAbs-sum : (xs : List A) (f : A → ℤ) → natAbs (sum xs f) ≤ sumℕ xs (λ x. natAbs (f x))
   unfolding sum sumℕ
   natAbs-sum [] f = Nat.le-refl 0
   natAbs-sum (x ∷ xs) f = Nat.le-trans (natAbs-+ℤ (f x) (sum xs f)) (Nat.add-le-add (Nat.le-refl (natAbs (f x))) (natAbs-sum xs f))
+
+  pub natAbs-sum-part : (before xs after : List A) (f : A → ℤ) → natAbs (sum xs f) ≤ sumℕ (before ++ (xs ++ after)) (λ x. natAbs (f x))
+  natAbs-sum-part before xs after f = Nat.le-trans (natAbs-sum xs f) (sumℕ-part before xs after (λ x. natAbs (f x)))
 
   pub natAbs-sum-le : (xs : List A) (f : A → ℤ) {g : A → ℕ} → ((x : A) → List·Memᴰ x xs → natAbs (f x) ≤ g x) → natAbs (sum xs f) ≤ sumℕ xs g
   natAbs-sum-le xs f h = Nat.le-trans (natAbs-sum xs f) (sumℕ-mono xs h)

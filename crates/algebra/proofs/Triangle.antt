@@ -1,18 +1,18 @@
 -- A triangle of terms f(i,j), i + j ≤ d, passed row by row with two counters, as nested loops do: what has been added, and its size.
-use mathlib.Core.Path.{_≡_, sym, _∙_, ap}
-use Prim.Native.Nat.{ℕ, suc, _+_, _-_, _≤_}
+use mathlib.Core.Path.{_≡_, sym, _∙_, ap, ap₂}
+use Prim.Native.Nat.{ℕ, suc, _+_, _-_, _≤_, _<_}
 use native.Mathlib.Nat as Nat
 use native.Mathlib.Decide.{decLe}
 use native.Mathlib.Omega.{arith}
 use lib.IntN.{ℤ, pos, _+ℤ_, natAbs, +ℤ-assoc, +ℤ-idl, +ℤ-idr}
-use Rattle.algebra.specs.Sum.{sum, sumℕ, run, _⋯_}
+use Rattle.algebra.specs.Sum.{sum, sumℕ, run, span, _⋯_}
 use Rattle.algebra.proofs.Absolute.{natAbs-+ℤ}
 use Rattle.algebra.proofs.Sum.{sum-++, sumℕ-mono, natAbs-sum, natAbs-sum-le}
-use Rattle.algebra.proofs.Run.{run-++, ⋯-run, ⋯-none, sum-run-zero, sum-run-suc, sumℕ-run-suc, sum-none, sumℕ-run-part}
+use Rattle.algebra.proofs.Run.{span-++, ⋯-member, sum-span-none, sum-span-next, sumℕ-span-none, sumℕ-span-next, sum-span-zero, sumℕ-span-part}
 
--- the rows a .. a + p - 1 from the column b on, and of the row a + p the columns b .. b + m - 1
+-- the rows from a on below i, each from the column b on, and of the row i the columns from b on below j
 unfoldable pub passed : ℕ → (ℕ → ℕ → ℤ) → ℕ → ℕ → ℕ → ℕ → ℤ
-passed d f a p b m = sum (run a p) (λ i. sum (b ⋯ (d - i)) (f i)) +ℤ sum (run b m) (f (a + p))
+passed d f a b i j = sum (span a i) (λ k. sum (b ⋯ (d - k)) (f k)) +ℤ sum (span b j) (f i)
 
 -- the whole triangle, of natural numbers
 abbrev pub triangle : ℕ → (ℕ → ℕ → ℕ) → ℕ
@@ -20,67 +20,65 @@ triangle d g = sumℕ (0 ⋯ d) (λ i. sumℕ (0 ⋯ (d - i)) (g i))
 
 -- ---- the steps of the loops
 module _ (d : ℕ) (f : ℕ → ℕ → ℤ) (a b : ℕ) where
-  pub passed-start : passed d f a 0 b 0 ≡ pos 0
+  pub passed-start : passed d f a b a b ≡ pos 0
   unfolding passed
-  passed-start = simp sum-run-zero
+  passed-start = rw (sum-span-none a a (λ k. sum (b ⋯ (d - k)) (f k)) (Nat.le-refl a), sum-span-none b b (f a) (Nat.le-refl b))
 
   -- one column more
-  pub passed-next : (p m : ℕ) → passed d f a p b (suc m) ≡ passed d f a p b m +ℤ f (a + p) (b + m)
+  pub passed-next : (i j : ℕ) → b ≤ j → passed d f a b i (j + 1) ≡ passed d f a b i j +ℤ f i j
   unfolding passed
-  passed-next p m = rw (sum-run-suc b m) (sym (+ℤ-assoc (sum (run a p) (λ i. sum (b ⋯ (d - i)) (f i))) (sum (run b m) (f (a + p))) (f (a + p) (b + m))))
+  passed-next i j h = rw (sum-span-next b j (f i) h) (sym (+ℤ-assoc (sum (span a i) (λ k. sum (b ⋯ (d - k)) (f k))) (sum (span b j) (f i)) (f i j)))
 
-  -- the row is at its end
-  pub passed-row : (p m : ℕ) → b + m ≡ suc (d - (a + p)) → passed d f a p b m ≡ passed d f a (suc p) b 0
+  -- the row is at its end, or has no column
+  pub passed-row : (i j : ℕ) → a ≤ i → j - b ≡ suc (d - i) - b → passed d f a b i j ≡ passed d f a b (i + 1) b
+  unfolding passed _⋯_ span
+  passed-row i j h e =
+      let r : ℕ → ℤ = λ k. sum (b ⋯ (d - k)) (f k) in
+      ap (λ n. sum (span a i) r +ℤ sum (run b n) (f i)) e
+      ∙ sym (ap₂ _+ℤ_ (sum-span-next a i r h) (sum-span-none b b (f (i + 1)) (Nat.le-refl b)) ∙ +ℤ-idr (sum (span a i) r +ℤ r i))
+
+  -- all rows are at their ends: those left over have no column
+  pub passed-end : (i : ℕ) → a ≤ i → i ≤ suc d → d < i + b → passed d f a b i b ≡ sum (a ⋯ d) (λ k. sum (b ⋯ (d - k)) (f k))
   unfolding passed _⋯_
-  passed-row p m h = let e : suc (d - (a + p)) - b ≡ m = omega arith in rw (sum-run-suc a p, sum-run-zero, e, +ℤ-idr)
-
-  -- all rows are at their ends: those with d - i < b have no column
-  pub passed-all : (p : ℕ) → a + p + b ≡ suc d → passed d f a p b 0 ≡ sum (a ⋯ d) (λ i. sum (b ⋯ (d - i)) (f i))
-  unfolding passed sum _⋯_
-  passed-all p h =
-      let r : ℕ → ℤ = λ i. sum (b ⋯ (d - i)) (f i) in
-      let none : sum (run (a + p) b) r ≡ pos 0 = sum-none (a + p) b r (λ i l k. ap (λ l. sum l (f i)) (⋯-none b (d - i) (omega arith))) in
-      let e : suc d - a ≡ p + b = omega arith in
-      let whole : sum (a ⋯ d) r ≡ sum (run a p) r = ap (λ l. sum l r) (ap (run a) e ∙ run-++ a p b) ∙ sum-++ (run a p) (run (a + p) b) r ∙ ap (λ x. sum (run a p) r +ℤ x) none ∙ +ℤ-idr (sum (run a p) r) in
-      rw whole (ap (λ x. sum (run a p) r +ℤ x) (sum-run-zero b (f (a + p))) ∙ +ℤ-idr (sum (run a p) r))
+  passed-end i h k l =
+      let r : ℕ → ℤ = λ k. sum (b ⋯ (d - k)) (f k) in
+      let left-over : sum (span i (suc d)) r ≡ pos 0 = sum-span-zero i (suc d) r (λ m p q. sum-span-none b (suc (d - m)) (f m) (omega arith)) in
+      ap (λ x. sum (span a i) r +ℤ x) (sum-span-none b b (f i) (Nat.le-refl b) ∙ sym left-over) ∙ sym (ap (λ l. sum l r) (span-++ a i (suc d) h k) ∙ sum-++ (span a i) (span i (suc d)) r)
 
 -- ---- what has been added is at most the sum of the absolute values over the whole triangle
 module _ (d : ℕ) (g : ℕ → ℕ → ℕ) where
   row : ℕ → ℕ
   row i = sumℕ (0 ⋯ (d - i)) (g i)
 
-  part-of-row : (i b m : ℕ) → b + m ≤ suc (d - i) → sumℕ (run b m) (g i) ≤ row i
-  unfolding row
-  part-of-row i b m h = rw ⋯-run (sumℕ-run-part b m (g i) h)
+  part-of-row : (i b j : ℕ) → j ≤ suc (d - i) → sumℕ (span b j) (g i) ≤ row i
+  unfolding row _⋯_
+  part-of-row i b j h = sumℕ-span-part b j (g i) h
 
-  rest-of-row : (b i : ℕ) → sumℕ (b ⋯ (d - i)) (g i) ≤ row i
-  unfolding _⋯_ run sumℕ
-  rest-of-row b i = elim (decLe b (suc (d - i))) [
-    | yes l ↦ part-of-row i b (suc (d - i) - b) (omega arith)
-    | no l ↦ let z : suc (d - i) - b ≡ 0 = omega arith in rw z (omega arith)
-  ]
+  rows : (a i : ℕ) → i ≤ suc d → sumℕ (span a i) row ≤ triangle d g
+  unfolding row _⋯_
+  rows a i h = sumℕ-span-part a i row h
 
-  rows : (a p : ℕ) → a + p ≤ suc d → sumℕ (run a p) row ≤ triangle d g
-  unfolding row
-  rows a p h = rw (⋯-run d) (sumℕ-run-part a p row h)
-
-  part-of-triangle : (a p b m : ℕ) → a + p + (b + m) ≤ suc d → sumℕ (run a p) (λ i. sumℕ (b ⋯ (d - i)) (g i)) + sumℕ (run b m) (g (a + p)) ≤ triangle d g
-  unfolding sumℕ run
-  part-of-triangle a p b m h =
-      let whole : sumℕ (run a p) (λ i. sumℕ (b ⋯ (d - i)) (g i)) ≤ sumℕ (run a p) row = sumℕ-mono (run a p) (λ i k. rest-of-row b i) in
-      elim (decLe (a + p) d) [
-        | yes l ↦ let r = rows a (suc p) (omega arith) in let s = sumℕ-run-suc a p row in let t = part-of-row (a + p) b m (omega arith) in omega arith
-        | no l ↦ let r = rows a p (omega arith) in let z : m ≡ 0 = omega arith in rw z (omega arith)
+  part-of-triangle : (a b i j : ℕ) → a ≤ i → i ≤ suc d → (b < j → i + j ≤ suc d) → sumℕ (span a i) (λ k. sumℕ (b ⋯ (d - k)) (g k)) + sumℕ (span b j) (g i) ≤ triangle d g
+  unfolding _⋯_
+  part-of-triangle a b i j o h k =
+      let whole : sumℕ (span a i) (λ k. sumℕ (b ⋯ (d - k)) (g k)) ≤ sumℕ (span a i) row = sumℕ-mono (span a i) (λ k m. part-of-row k b (suc (d - k)) (Nat.le-refl (suc (d - k)))) in
+      elim (decLe j b) [
+        | yes l ↦ let z = sumℕ-span-none b j (g i) l in let r = rows a i h in omega arith
+        | no l ↦ let n = k (omega arith) in let r = rows a (i + 1) (omega arith) in let s = sumℕ-span-next a i row o in let t = part-of-row i b j (omega arith) in omega arith
       ]
 
 module _ (d : ℕ) (f : ℕ → ℕ → ℤ) where
-  pub passed-size : (a p b m : ℕ) → a + p + (b + m) ≤ suc d → natAbs (passed d f a p b m) ≤ triangle d (λ i j. natAbs (f i j))
+  pub passed-size : (a b i j : ℕ) → a ≤ i → i ≤ suc d → (b < j → i + j ≤ suc d) → natAbs (passed d f a b i j) ≤ triangle d (λ i j. natAbs (f i j))
   unfolding passed
-  passed-size a p b m h = Nat.le-trans (natAbs-+ℤ (sum (run a p) (λ i. sum (b ⋯ (d - i)) (f i))) (sum (run b m) (f (a + p)))) (Nat.le-trans
-      (Nat.add-le-add (natAbs-sum-le (run a p) (λ i. sum (b ⋯ (d - i)) (f i)) (λ i k. natAbs-sum (b ⋯ (d - i)) (f i))) (natAbs-sum (run b m) (f (a + p))))
-      (part-of-triangle d (λ i j. natAbs (f i j)) a p b m h))
+  passed-size a b i j o h k = Nat.le-trans (natAbs-+ℤ (sum (span a i) (λ k. sum (b ⋯ (d - k)) (f k))) (sum (span b j) (f i))) (Nat.le-trans
+      (Nat.add-le-add (natAbs-sum-le (span a i) (λ k. sum (b ⋯ (d - k)) (f k)) (λ k m. natAbs-sum (b ⋯ (d - k)) (f k))) (natAbs-sum (span b j) (f i)))
+      (part-of-triangle d (λ i j. natAbs (f i j)) a b i j o h k))
 
   -- of one row alone
-  pub row-size : (i b m : ℕ) → i + (b + m) ≤ suc d → natAbs (sum (run b m) (f i)) ≤ triangle d (λ i j. natAbs (f i j))
+  pub row-size : (i b j : ℕ) → i ≤ suc d → (b < j → i + j ≤ suc d) → natAbs (sum (span b j) (f i)) ≤ triangle d (λ i j. natAbs (f i j))
   unfolding passed
-  row-size i b m h = rw (sum-run-zero, Nat.add-zero, +ℤ-idl) at (passed-size i 0 b m (rw Nat.add-zero h))
+  row-size i b j h k = rw (sum-span-none i i (λ k. sum (b ⋯ (d - k)) (f k)) (Nat.le-refl i), +ℤ-idl) at (passed-size i b i j (Nat.le-refl i) h k)
+
+-- ---- two triangles compared, place by place
+pub triangle-mono : (d : ℕ) {f g : ℕ → ℕ → ℕ} → ((i j : ℕ) → i + j ≤ d → f i j ≤ g i j) → triangle d f ≤ triangle d g
+triangle-mono d h = sumℕ-mono (0 ⋯ d) (λ i m. sumℕ-mono (0 ⋯ (d - i)) (λ j k. let p = ⋯-member 0 d m in let q = ⋯-member 0 (d - i) k in h i j (omega arith)))

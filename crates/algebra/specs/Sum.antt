@@ -18,7 +18,11 @@ unfoldable pub run : ℕ → ℕ → List ℕ
 run a zero = []
 run a (suc n) = a ∷ run (suc a) n
 
+-- the numbers from a on that are below n: what a loop from a has passed when its counter is n
+unfoldable pub span : ℕ → ℕ → List ℕ
+span a n = run a (n - a)
+
 -- the numbers a, a + 1, .., b; none where b is below a
 infix 68 _⋯_
 unfoldable pub _⋯_ : ℕ → ℕ → List ℕ
-a ⋯ b = run a (suc b - a)
+a ⋯ b = span a (suc b)

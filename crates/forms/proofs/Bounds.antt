@@ -1,6 +1,6 @@
 -- What a coefficient of the local form gives to the bounds and to the bend, and the opposite form, which turns lower bounds into upper ones.
 use mathlib.Core.Path.{_≡_, refl}
-use mathlib.Core.Bool.{Bool, true, false, _&&_, cond}
+use mathlib.Core.Bool.{Bool, true, false, cond}
 use mathlib.Core.List.{List}
 use Prim.Native.Nat.{ℕ, _≤_, _<_}
 use native.Mathlib.Nat as Nat
@@ -8,7 +8,7 @@ use native.Mathlib.Omega.{arith}
 use lib.Dec.{T, eqb, eqb→eq, leb→le, nleb→lt}
 use lib.IntN.{ℤ, pos, negℤ, natAbs, negℤ-negℤ}
 use Rattle.algebra.specs.MinMax.{minℤ}
-use Rattle.algebra.proofs.Choice.{choice, and-r}
+use Rattle.algebra.proofs.Choice.{choice}
 use Rattle.algebra.proofs.Integer.{negℤ-*ℤ}
 use Rattle.algebra.proofs.Order.{nonneg, ≤ℤ-trans, negℤ-mono}
 use Rattle.algebra.proofs.Absolute.{natAbs-negℤ, natAbs-bound, -natAbs-≤ℤ}
@@ -16,25 +16,29 @@ use Rattle.algebra.proofs.MinMax.{minℤ-≤ℤ, minℤ-greatest, negℤ-minℤ
 use Rattle.algebra.proofs.Sum.{negℤ-sum}
 use Rattle.forms.specs.Vectors.{total, all-even}
 use Rattle.forms.specs.Points.{Point}
-use Rattle.forms.specs.Form.{Form, scaled, value, local, low, high, lower, upper, bends, bent, bend}
+use Rattle.forms.specs.Form.{Form, scaled, value-term, value, local-term, local, Mode, affine, centred, even-rule, low, high, lower, upper, bends, bent, bend}
 use Rattle.forms.proofs.Vectors.{even-total}
 
 -- ---- the lower bound, by the three cases of its definition
-pub low-cases : (P : ℤ → Type 0) (mode : ℕ) (a : List ℕ) (g : ℤ) →
+rule-even : (mode : Mode) (a : List ℕ) → T (even-rule mode a) → T (all-even a)
+rule-even affine a t = t
+rule-even centred a t = absurd t
+
+pub low-cases : (P : ℤ → Type 0) (mode : Mode) (a : List ℕ) (g : ℤ) →
     (total a ≡ 0 → P g) → (T (all-even a) → P (minℤ (pos 0) g)) → P (negℤ (pos (natAbs g))) → P (low mode a g)
 unfolding low
 low-cases P mode a g none even other = choice P (eqb (total a) 0) _ _ (λ t. none (eqb→eq (total a) 0 t))
-    (λ t. choice P (eqb mode 0 && all-even a) _ _ (λ t. even (and-r (eqb mode 0) (all-even a) t)) (λ t. other))
+    (λ t. choice P (even-rule mode a) _ _ (λ t. even (rule-even mode a t)) (λ t. other))
 
-pub low-zero : (mode : ℕ) (a : List ℕ) (g : ℤ) → total a ≡ 0 → low mode a g ≡ g
+pub low-zero : (mode : Mode) (a : List ℕ) (g : ℤ) → total a ≡ 0 → low mode a g ≡ g
 unfolding low
 low-zero mode a g h = rw h
 
 -- a single exponent is not even, so it takes -|g| in both modes
-pub low-one : (mode : ℕ) (a : List ℕ) (g : ℤ) → total a ≡ 1 → low mode a g ≡ negℤ (pos (natAbs g))
+pub low-one : (mode : Mode) (a : List ℕ) (g : ℤ) → total a ≡ 1 → low mode a g ≡ negℤ (pos (natAbs g))
 low-one mode a g h = low-cases (λ x. x ≡ negℤ (pos (natAbs g))) mode a g (λ z. absurd (omega arith)) (λ t. absurd (let p = even-total a t in omega arith)) refl
 
-pub natAbs-low : (mode : ℕ) (a : List ℕ) (g : ℤ) → natAbs (low mode a g) ≤ natAbs g
+pub natAbs-low : (mode : Mode) (a : List ℕ) (g : ℤ) → natAbs (low mode a g) ≤ natAbs g
 natAbs-low mode a g = low-cases (λ x. natAbs x ≤ natAbs g) mode a g (λ z. Nat.le-refl (natAbs g))
     (λ t. natAbs-bound (minℤ-greatest (negℤ-mono (nonneg (natAbs g))) (-natAbs-≤ℤ g)) (≤ℤ-trans (minℤ-≤ℤ (pos 0) g .0) (nonneg (natAbs g))))
     (Nat.le-of-eq (natAbs-negℤ (pos (natAbs g))))
@@ -44,11 +48,11 @@ negℤ-cond : (c : Bool) (x y : ℤ) → negℤ (cond c x y) ≡ cond c (negℤ 
 negℤ-cond true x y = refl
 negℤ-cond false x y = refl
 
-pub high-low : (mode : ℕ) (a : List ℕ) (g : ℤ) → high mode a g ≡ negℤ (low mode a (negℤ g))
+pub high-low : (mode : Mode) (a : List ℕ) (g : ℤ) → high mode a g ≡ negℤ (low mode a (negℤ g))
 unfolding low high
 high-low mode a g = simp (negℤ-cond, negℤ-minℤ, negℤ-negℤ, natAbs-negℤ)
 
-pub natAbs-high : (mode : ℕ) (a : List ℕ) (g : ℤ) → natAbs (high mode a g) ≤ natAbs g
+pub natAbs-high : (mode : Mode) (a : List ℕ) (g : ℤ) → natAbs (high mode a g) ≤ natAbs g
 natAbs-high mode a g = rw (high-low, natAbs-negℤ, ← (natAbs-negℤ g)) (natAbs-low mode a (negℤ g))
 
 -- ---- the bend: nothing where |a| < 2, and |g| from there on
@@ -75,13 +79,13 @@ module _ (F : Form) where
 
   pub value-opposite : (x : Point) (Q : ℕ) → value (opposite F) x Q ≡ negℤ (value F x Q)
   unfolding value
-  value-opposite x Q = simp (value, scaled-opposite, negℤ-*ℤ, negℤ-sum)
+  value-opposite x Q = simp (value, value-term, scaled-opposite, negℤ-*ℤ, negℤ-sum)
 
   local-opposite : (u : Point) (H : ℕ) (a : List ℕ) → local (opposite F) u H a ≡ negℤ (local F u H a)
   unfolding local
-  local-opposite u H a = simp (local, scaled-opposite, negℤ-*ℤ, negℤ-sum)
+  local-opposite u H a = simp (local, local-term, scaled-opposite, negℤ-*ℤ, negℤ-sum)
 
-  pub upper-lower : (mode : ℕ) (u : Point) (H : ℕ) → upper F mode u H ≡ negℤ (lower (opposite F) mode u H)
+  pub upper-lower : (mode : Mode) (u : Point) (H : ℕ) → upper F mode u H ≡ negℤ (lower (opposite F) mode u H)
   unfolding upper lower
   upper-lower mode u H = simp (upper, lower, high-low, local-opposite, negℤ-sum)
 

@@ -18,14 +18,14 @@ use Rattle.algebra.proofs.Ring.{ring, _⊕_, _⊖_, _⊗_, ⊝_, #_, _≐_}
 use Rattle.algebra.proofs.Sum.{sum-mono, *ℤ-sum}
 use Rattle.forms.specs.Vectors.{total, all-even}
 use Rattle.forms.specs.Points.{Point, powers}
-use Rattle.forms.specs.Form.{Form, indices, value, InBox, local, low, lower, upper}
+use Rattle.forms.specs.Form.{Form, indices, value, InBox, local, Mode, low, lower, upper}
 use Rattle.forms.proofs.Vectors.{vectors-fit}
 use Rattle.forms.proofs.Points.{powers-zero, powers-size, powers-even}
 use Rattle.forms.proofs.Taylor.{taylor, local-taylor, taylor-formula}
 use Rattle.forms.proofs.Bounds.{low-cases, opposite, value-opposite, upper-lower}
 
 -- ---- one coefficient: c low(g b) ≤ g t, where |t| ≤ c b
-low-≤ℤ : (mode : ℕ) (a : List ℕ) (g t : ℤ) (c b : ℕ) → (total a ≡ 0 → t ≡ pos (c * b)) → (T (all-even a) → pos 0 ≤ℤ t) → natAbs t ≤ c * b →
+low-≤ℤ : (mode : Mode) (a : List ℕ) (g t : ℤ) (c b : ℕ) → (total a ≡ 0 → t ≡ pos (c * b)) → (T (all-even a) → pos 0 ≤ℤ t) → natAbs t ≤ c * b →
     (pos c *ℤ low mode a (g *ℤ pos b)) ≤ℤ (g *ℤ t)
 low-≤ℤ mode a g t c b at-none at-even h =
     let small : natAbs (g *ℤ t) ≤ natAbs g * (c * b) = rw natAbs-*ℤ (Nat.mul-le-mul-left (natAbs g) h) in
@@ -49,7 +49,7 @@ module _ (F : Form) (u : Point) (H : ℕ) (x : Point) (Q : ℕ) (h : InBox F u H
   unfolding offset
   offset-size {a} m = powers-size a offset (Q * H) (rw (vectors-fit (F .variables) (F .degree) m .0) (λ v i. let b = h v i in omega arith))
 
-  low-term : (mode : ℕ) {a : List ℕ} → List·Memᴰ a (indices F) →
+  low-term : (mode : Mode) {a : List ℕ} → List·Memᴰ a (indices F) →
       (pow (pos Q) (F .degree) *ℤ low mode a (local F u H a)) ≤ℤ (taylor F u a *ℤ powers offset a *ℤ pow (pos Q) (F .degree - total a))
   low-term mode {a} m =
       let d = F .degree in let k = total a in let s = vectors-fit (F .variables) d m .1 in
@@ -60,13 +60,13 @@ module _ (F : Form) (u : Point) (H : ℕ) (x : Point) (Q : ℕ) (h : InBox F u H
       (Nat.le-of-eq (rw (*-pow, Nat.mul-right-comm (Q ^ k) (H ^ k), ← (pow-add Q k (d - k))) (ap (λ (x : ℕ). Q ^ x * H ^ k) (omega arith)))))))
 
   -- Q^d lower ≤ F(x,Q)
-  pub lower-below-value : (mode : ℕ) → (pow (pos Q) (F .degree) *ℤ lower F mode u H) ≤ℤ value F x Q
+  pub lower-below-value : (mode : Mode) → (pow (pos Q) (F .degree) *ℤ lower F mode u H) ≤ℤ value F x Q
   unfolding lower offset
   lower-below-value mode =
       let e : x ≡ (λ v. pos Q *ℤ u v +ℤ offset v) = fun-ext (λ v. ring (x v ∷ pos Q ∷ u v ∷ []) (λ x q u. x ≐ q ⊗ u ⊕ (x ⊖ q ⊗ u)) tt) in
       ≤ℤ-trans (rw *ℤ-sum (sum-mono (indices F) (λ a m. low-term mode m))) (≤ℤ-of-≡ (sym (ap (λ y. value F y Q) e ∙ taylor-formula F u offset Q)))
 
-module _ (F : Form) (u : Point) (H : ℕ) (x : Point) (Q : ℕ) (h : InBox F u H x Q) (mode : ℕ) where
+module _ (F : Form) (u : Point) (H : ℕ) (x : Point) (Q : ℕ) (h : InBox F u H x Q) (mode : Mode) where
   -- F(x,Q) ≤ Q^d upper
   pub value-below-upper : value F x Q ≤ℤ (pow (pos Q) (F .degree) *ℤ upper F mode u H)
   value-below-upper = ≤ℤ-by (lower-below-value (opposite F) u H x Q h mode) (rw (upper-lower F mode u H, value-opposite F x Q)

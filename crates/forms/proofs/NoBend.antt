@@ -16,19 +16,13 @@ use Rattle.algebra.proofs.Ring.{ring, _⊕_, _⊖_, _⊗_, ⊝_, #_, _≐_}
 use Rattle.algebra.proofs.Sum.{sum-cong, sum-+, sum-*ℤ, negℤ-sum, pos-sumℕ, sumℕ-member}
 use Rattle.forms.specs.Vectors.{total}
 use Rattle.forms.specs.Points.{Point, powers}
-use Rattle.forms.specs.Form.{Form, indices, value, InBox, Meets, local, low, high, lower, upper, bent, bend}
+use Rattle.forms.specs.Form.{Form, indices, value, InBox, Meets, local, Mode, low, high, lower, upper, bent, bend}
+use Rattle.forms.specs.Straight.{turning, zero-denominator, zero-point}
 use Rattle.forms.proofs.Vectors.{vectors-fit}
 use Rattle.forms.proofs.Points.{powers-zero, powers-*ℤ}
 use Rattle.forms.proofs.Taylor.{local-formula}
 use Rattle.forms.proofs.Bounds.{low-zero, low-one, natAbs-low, high-low, natAbs-high, bent-many}
-use Rattle.forms.proofs.Signs.{natAbs-against, turning, turning-linear}
-
--- ---- the point: Q is upper - lower, or 1 where that is 0, and x is Q u + H (lower + upper) σ, with the signs σ against the linear coefficients
-unfoldable pub zero-denominator : Form → ℕ → Point → ℕ → ℕ
-zero-denominator F mode u H = max 1 (natAbs (upper F mode u H -ℤ lower F mode u H))
-
-unfoldable pub zero-point : Form → ℕ → Point → ℕ → Point
-zero-point F mode u H v = pos (zero-denominator F mode u H) *ℤ u v +ℤ pos H *ℤ ((lower F mode u H +ℤ upper F mode u H) *ℤ turning (F .variables) (local F u H) v)
+use Rattle.forms.proofs.Signs.{natAbs-against, turning-linear}
 
 -- ---- one coefficient: g at |a| = 0, |g| at |a| = 1, and no other
 constant-part : List ℕ → ℤ → ℤ
@@ -51,14 +45,14 @@ kind a g h = go (total a) refl
     go (suc zero) e = single e (rw e) (rw e)
     go (suc (suc k)) e = flat (natAbs-zero g (sym (bent-many a g (omega arith)) ∙ h)) (rw (e, eqb·suc-zero)) (rw (e, eqb·suc-suc, eqb·suc-zero))
 
-low-parts : (mode : ℕ) (a : List ℕ) (g : ℤ) → bent a g ≡ 0 → low mode a g ≡ constant-part a g -ℤ pos (linear-part a g)
+low-parts : (mode : Mode) (a : List ℕ) (g : ℤ) → bent a g ≡ 0 → low mode a g ≡ constant-part a g -ℤ pos (linear-part a g)
 low-parts mode a g h = elim (kind a g h) [
   | none e c l ↦ rw (low-zero mode a g e, c, l) (sym (+ℤ-idr g))
   | single e c l ↦ rw (low-one mode a g e, c, l) (sym (+ℤ-idl (negℤ (pos (natAbs g)))))
   | flat z c l ↦ let s = natAbs-low mode a g in let t = ap natAbs z in rw (natAbs-zero (low mode a g) (omega arith), c, l)
 ]
 
-high-parts : (mode : ℕ) (a : List ℕ) (g : ℤ) → bent a g ≡ 0 → high mode a g ≡ constant-part a g +ℤ pos (linear-part a g)
+high-parts : (mode : Mode) (a : List ℕ) (g : ℤ) → bent a g ≡ 0 → high mode a g ≡ constant-part a g +ℤ pos (linear-part a g)
 high-parts mode a g h = elim (kind a g h) [
   | none e c l ↦ rw (high-low, low-zero mode a (negℤ g) e, negℤ-negℤ, c, l) (sym (+ℤ-idr g))
   | single e c l ↦ rw (high-low, low-one mode a (negℤ g) e, negℤ-negℤ, natAbs-negℤ, c, l) (sym (+ℤ-idl (pos (natAbs g))))
@@ -92,11 +86,11 @@ module _ (F : Form) (u : Point) (H : ℕ) (straight : bend F u H ≡ 0) where
   unfolding bend
   unbent m = let k = sumℕ-member (λ a. bent a (local F u H a)) m in omega arith
 
-  lower-is : (mode : ℕ) → lower F mode u H ≡ constant -ℤ pos linear
+  lower-is : (mode : Mode) → lower F mode u H ≡ constant -ℤ pos linear
   unfolding lower constant linear
   lower-is mode = sum-cong (indices F) (λ a m. low-parts mode a (local F u H a) (unbent m)) ∙ simp (sum-+, pos-sumℕ, negℤ-sum)
 
-  upper-is : (mode : ℕ) → upper F mode u H ≡ constant +ℤ pos linear
+  upper-is : (mode : Mode) → upper F mode u H ≡ constant +ℤ pos linear
   unfolding upper constant linear
   upper-is mode = sum-cong (indices F) (λ a m. high-parts mode a (local F u H a) (unbent m)) ∙ simp (sum-+, pos-sumℕ)
 
@@ -112,20 +106,20 @@ module _ (F : Form) (u : Point) (H : ℕ) (straight : bend F u H ≡ 0) where
       ∙ simp (← sum-*ℤ, sum-+, ← negℤ-sum, pos-sumℕ))
 
   -- lower + upper is twice the constant, and upper - lower twice the linear part
-  sum-is : (mode : ℕ) → lower F mode u H +ℤ upper F mode u H ≡ pos 2 *ℤ constant
+  sum-is : (mode : Mode) → lower F mode u H +ℤ upper F mode u H ≡ pos 2 *ℤ constant
   sum-is mode = rw (lower-is mode, upper-is mode) (ring (constant ∷ pos linear ∷ []) (λ c l. c ⊖ l ⊕ (c ⊕ l) ≐ # 2 ⊗ c) tt)
 
-  difference-is : (mode : ℕ) → upper F mode u H -ℤ lower F mode u H ≡ pos (2 * linear)
+  difference-is : (mode : Mode) → upper F mode u H -ℤ lower F mode u H ≡ pos (2 * linear)
   difference-is mode = rw (lower-is mode, upper-is mode) (ring (constant ∷ pos linear ∷ []) (λ c l. c ⊕ l ⊖ (c ⊖ l) ≐ # 2 ⊗ l) tt)
 
   -- |constant| ≤ linear
-  enclosed : (mode : ℕ) → lower F mode u H ≤ℤ pos 0 → pos 0 ≤ℤ upper F mode u H → natAbs constant ≤ linear
+  enclosed : (mode : Mode) → lower F mode u H ≤ℤ pos 0 → pos 0 ≤ℤ upper F mode u H → natAbs constant ≤ linear
   enclosed mode lo up = natAbs-bound {a = constant}
       (≤ℤ-by up (rw (upper-is mode) (ring (constant ∷ pos linear ∷ []) (λ c l. c ⊖ ⊝ l ≐ c ⊕ l ⊖ # 0) tt)))
       (≤ℤ-by lo (rw (lower-is mode) (ring (constant ∷ pos linear ∷ []) (λ c l. l ⊖ c ≐ # 0 ⊖ (c ⊖ l)) tt)))
 
 -- ---- the point lies in the box, and the value there is zero
-module _ (F : Form) (u : Point) (H : ℕ) (straight : bend F u H ≡ 0) (mode : ℕ) (lo : lower F mode u H ≤ℤ pos 0) (up : pos 0 ≤ℤ upper F mode u H) where
+module _ (F : Form) (u : Point) (H : ℕ) (straight : bend F u H ≡ 0) (mode : Mode) (lo : lower F mode u H ≤ℤ pos 0) (up : pos 0 ≤ℤ upper F mode u H) where
   C : ℤ
   C = constant F u H straight
 
@@ -140,9 +134,9 @@ module _ (F : Form) (u : Point) (H : ℕ) (straight : bend F u H ≡ 0) (mode : 
   unfolding zero-denominator L
   denominator-is = rw (difference-is F u H straight mode)
 
-  inside : InBox F u H (zero-point F mode u H) (zero-denominator F mode u H)
+  pub zero-in-box : InBox F u H (zero-point F mode u H) (zero-denominator F mode u H)
   unfolding zero-point C
-  inside v i =
+  zero-in-box v i =
       let Q = zero-denominator F mode u H in let K = lower F mode u H +ℤ upper F mode u H in let σ = turning (F .variables) (local F u H) v in
       let k : natAbs K ≤ Q = rw (sum-is F u H straight mode, denominator-is, natAbs-*ℤ (pos 2) C) (let s = small in omega arith) in
       rw (ring ((pos Q *ℤ u v) ∷ (pos H *ℤ (K *ℤ σ)) ∷ []) (λ x y. x ⊕ y ⊖ x ≐ y) tt, natAbs-*ℤ (pos H) (K *ℤ σ), natAbs-*ℤ K σ, natAbs-against _, Nat.mul-one, Nat.mul-comm H) (Nat.mul-le-mul-right H k)
@@ -156,15 +150,15 @@ module _ (F : Form) (u : Point) (H : ℕ) (straight : bend F u H ≡ 0) (mode : 
       go zero e = let s = small in rw (natAbs-zero C (omega arith)) (ring (pos (max 1 (2 * L)) ∷ pos L ∷ []) (λ q l. # 0 ⊗ q ⊖ l ⊗ (# 2 ⊗ # 0) ≐ # 0) tt)
       go (suc l) e = let q : max 1 (2 * L) ≡ 2 * L = omega arith in rw q (ring (C ∷ pos L ∷ []) (λ c l. c ⊗ (# 2 ⊗ l) ⊖ l ⊗ (# 2 ⊗ c) ≐ # 0) tt)
 
-  positive : 1 ≤ zero-denominator F mode u H
-  positive = rw denominator-is (omega arith)
+  pub zero-positive : 1 ≤ zero-denominator F mode u H
+  zero-positive = rw denominator-is (omega arith)
 
-  vanishes : value F (zero-point F mode u H) (zero-denominator F mode u H) ≡ pos 0
+  pub zero-vanishes : value F (zero-point F mode u H) (zero-denominator F mode u H) ≡ pos 0
   unfolding zero-point C L
-  vanishes =
+  zero-vanishes =
       let Q = zero-denominator F mode u H in let K = lower F mode u H +ℤ upper F mode u H in let x = zero-point F mode u H in
       let z : pos Q *ℤ value F x Q ≡ pos Q *ℤ pos 0 = *ℤ-comm (pos Q) (value F x Q) ∙ line-value F u H straight K Q ∙ rw balanced (zero-*ℤ (pow (pos Q) (F .degree)) ∙ sym (*ℤ-zero (pos Q))) in
-      *ℤ-cancel-l (pos-mono-< positive) z
+      *ℤ-cancel-l (pos-mono-< zero-positive) z
 
   pub meets : Meets F u H
-  meets = record { x = zero-point F mode u H; Q = zero-denominator F mode u H; positive = positive; inside = inside; vanishes = vanishes }
+  meets = record { x = zero-point F mode u H; Q = zero-denominator F mode u H; positive = zero-positive; inside = zero-in-box; vanishes = zero-vanishes }

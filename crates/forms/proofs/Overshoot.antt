@@ -13,15 +13,16 @@ use Rattle.algebra.proofs.Ring.{ring, _⊕_, _⊖_, _⊗_, ⊝_, #_, _≐_}
 use Rattle.algebra.proofs.Sum.{sum-mono, sum-+, *ℤ-sum, pos-sumℕ}
 use Rattle.forms.specs.Vectors.{total}
 use Rattle.forms.specs.Points.{Point, powers}
-use Rattle.forms.specs.Form.{Form, indices, value, local, low, lower, upper, bent, bend, Signs, corner}
+use Rattle.forms.specs.Form.{Form, indices, value, local, Mode, low, lower, upper, bent, bend, Signs, corner}
+use Rattle.forms.specs.Straight.{turning}
 use Rattle.forms.proofs.Vectors.{vectors-fit}
 use Rattle.forms.proofs.Points.{powers-zero, powers-signs}
 use Rattle.forms.proofs.Taylor.{local-whole}
 use Rattle.forms.proofs.Bounds.{low-zero, low-one, natAbs-low, bent-few, bent-many, opposite, value-opposite, upper-lower, bend-opposite}
-use Rattle.forms.proofs.Signs.{natAbs-against, turning, turning-linear}
+use Rattle.forms.proofs.Signs.{natAbs-against, turning-linear}
 
 -- ---- one coefficient: g s ≤ low(g) + 2 bent(g), where s is σ^a
-overshoot : (mode : ℕ) (a : List ℕ) (g s : ℤ) → (total a ≡ 0 → s ≡ pos 1) → (total a ≡ 1 → g *ℤ s ≡ negℤ (pos (natAbs g))) → natAbs s ≤ 1 →
+overshoot : (mode : Mode) (a : List ℕ) (g s : ℤ) → (total a ≡ 0 → s ≡ pos 1) → (total a ≡ 1 → g *ℤ s ≡ negℤ (pos (natAbs g))) → natAbs s ≤ 1 →
     (g *ℤ s) ≤ℤ (low mode a g +ℤ pos 2 *ℤ pos (bent a g))
 overshoot mode a g s at-none at-single h = go (total a) refl
   where
@@ -42,7 +43,7 @@ module _ (F : Form) (u : Point) (H : ℕ) where
   unfolding least
   least-signs v i = natAbs-against _
 
-  low-corner : (mode : ℕ) → (value F (corner u H least) 1 -ℤ pos (2 * bend F u H)) ≤ℤ lower F mode u H
+  low-corner : (mode : Mode) → (value F (corner u H least) 1 -ℤ pos (2 * bend F u H)) ≤ℤ lower F mode u H
   unfolding least lower bend
   low-corner mode =
       let I = indices F in let G = local F u H in let b : List ℕ → ℤ = λ a. pos (bent a (G a)) in
@@ -55,21 +56,21 @@ module _ (F : Form) (u : Point) (H : ℕ) where
       (ring (sum I (λ a. G a *ℤ powers least a) ∷ lower F mode u H ∷ pos (bend F u H) ∷ []) (λ s l b. l ⊖ (s ⊖ # 2 ⊗ b) ≐ l ⊕ # 2 ⊗ b ⊖ s) tt))
 
 module _ (F : Form) (u : Point) (H : ℕ) where
-  -- some corner value v has v - 2 bend ≤ lower, in every mode; and some corner value v has upper ≤ v + 2 bend
-  pub lower-overshoot : (σ : Point) × Signs F σ × ((mode : ℕ) → (value F (corner u H σ) 1 -ℤ pos (2 * bend F u H)) ≤ℤ lower F mode u H)
+  -- some corner value v has v - 2 bend ≤ lower, in both modes; and some corner value v has upper ≤ v + 2 bend
+  pub lower-overshoot : (σ : Point) × Signs F σ × ((mode : Mode) → (value F (corner u H σ) 1 -ℤ pos (2 * bend F u H)) ≤ℤ lower F mode u H)
   lower-overshoot = (least F u H, least-signs F u H, low-corner F u H)
 
-  pub upper-overshoot : (σ : Point) × Signs F σ × ((mode : ℕ) → upper F mode u H ≤ℤ (value F (corner u H σ) 1 +ℤ pos (2 * bend F u H)))
+  pub upper-overshoot : (σ : Point) × Signs F σ × ((mode : Mode) → upper F mode u H ≤ℤ (value F (corner u H σ) 1 +ℤ pos (2 * bend F u H)))
   upper-overshoot =
       let O = opposite F in let σ = least O u H in let x = corner u H σ in
-      let k : (mode : ℕ) → upper F mode u H ≤ℤ (value F x 1 +ℤ pos (2 * bend F u H)) = λ mode.
+      let k : (mode : Mode) → upper F mode u H ≤ℤ (value F x 1 +ℤ pos (2 * bend F u H)) = λ mode.
       ≤ℤ-by (low-corner O u H mode) (rw (upper-lower F mode u H, value-opposite F x 1, bend-opposite F u H)
       (ring (value F x 1 ∷ pos (bend F u H) ∷ lower O mode u H ∷ []) (λ v b l. v ⊕ # 2 ⊗ b ⊖ ⊝ l ≐ l ⊖ (⊝ v ⊖ # 2 ⊗ b)) tt)) in
       (σ, least-signs O u H, k)
 
   -- so where m is at most every corner value, m - 2 bend ≤ lower; and where m is at least every one, upper ≤ m + 2 bend
-  pub lower-over-corners : (mode : ℕ) (m : ℤ) → ((σ : Point) → Signs F σ → m ≤ℤ value F (corner u H σ) 1) → (m -ℤ pos (2 * bend F u H)) ≤ℤ lower F mode u H
+  pub lower-over-corners : (mode : Mode) (m : ℤ) → ((σ : Point) → Signs F σ → m ≤ℤ value F (corner u H σ) 1) → (m -ℤ pos (2 * bend F u H)) ≤ℤ lower F mode u H
   lower-over-corners mode m h = let (σ, s, k) = lower-overshoot in ≤ℤ-trans (+ℤ-mono (h σ s) (≤ℤ-refl _)) (k mode)
 
-  pub upper-over-corners : (mode : ℕ) (m : ℤ) → ((σ : Point) → Signs F σ → value F (corner u H σ) 1 ≤ℤ m) → upper F mode u H ≤ℤ (m +ℤ pos (2 * bend F u H))
+  pub upper-over-corners : (mode : Mode) (m : ℤ) → ((σ : Point) → Signs F σ → value F (corner u H σ) 1 ≤ℤ m) → upper F mode u H ≤ℤ (m +ℤ pos (2 * bend F u H))
   upper-over-corners mode m h = let (σ, s, k) = upper-overshoot in ≤ℤ-trans (k mode) (+ℤ-mono (h σ s) (≤ℤ-refl _))

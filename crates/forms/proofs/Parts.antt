@@ -1,6 +1,6 @@
 -- The parts of a box: a box of half-side 2 H and centre u has the parts of half-side H and centres u + H σ, for signs σ.
 use mathlib.Core.Path.{_≡_, sym, _∙_, ap}
-use mathlib.Core.List.{List, [], _∷_, List·Memᴰ}
+use mathlib.Core.List.{List, [], _∷_}
 use Prim.Native.Nat.{ℕ, _*_, _^_, _≤_}
 use native.Mathlib.Nat as Nat
 use native.Mathlib.Omega.{arith}
@@ -14,12 +14,13 @@ use Rattle.algebra.proofs.Ring.{ring, _⊕_, _⊖_, _⊗_, ⊝_, _≐_}
 use Rattle.algebra.proofs.Sum.{sum-cong, sum-swap, *ℤ-sum, sum-*ℤ, sumℕ-mono}
 use Rattle.forms.specs.Vectors.{total, chooses, _∸_}
 use Rattle.forms.specs.Points.{Point, powers}
-use Rattle.forms.specs.Form.{Form, indices, scaled, InBox, local, Signs, corner, weight, Limited}
+use Rattle.forms.specs.Form.{Form, Index, indices, scaled, InBox, local, Signs, corner, weight, Limited}
+use Rattle.forms.specs.Straight.{against}
 use Rattle.forms.proofs.Vectors.{vectors-fit, chooses-≤-pow, length-∸}
 use Rattle.forms.proofs.Points.{powers-signs}
 use Rattle.forms.proofs.Shift.{shifts, shifts-+, shifts-*ℤ}
 use Rattle.forms.proofs.Taylor.{taylor, local-taylor}
-use Rattle.forms.proofs.Signs.{against, natAbs-against, against-near}
+use Rattle.forms.proofs.Signs.{natAbs-against, against-near}
 use Rattle.forms.proofs.Size.{local-sum-size}
 
 -- ---- the form of a part, from the form of the whole
@@ -38,13 +39,13 @@ taylor-moved F u t a =
     ∙ simp (sum-*ℤ, *ℤ-assoc)
 
 -- then it is shifted by σ: the part has the sum of G(e) C(e,a) σ^(e-a), G being the halved form
-pub local-part : (F : Form) (u : Point) (H : ℕ) (σ : Point) {a : List ℕ} → List·Memᴰ a (indices F) →
+pub local-part : (F : Form) (u : Point) (H : ℕ) (σ : Point) (a : List ℕ) → Index F a →
     local F (corner u H σ) H a ≡ sum (indices F) (λ e. local F u H e *ℤ pos (chooses e a) *ℤ powers σ (e ∸ a))
 unfolding shifts
-local-part F u H σ {a} m =
+local-part F u H σ a j =
     let n = F .variables in let t : Point = λ v. pos H *ℤ σ v in
     rw (local-taylor F (corner u H σ) H, taylor-moved F u t, sum-*ℤ) (sum-cong (indices F) (λ e i. let l = vectors-fit n (F .degree) i .0 in
-    rw (local-taylor F u H e) (≡-by (ap (λ x. taylor F u e *ℤ x) (shifts-*ℤ e a (total a) (total e) (pos H) σ (l ∙ sym (vectors-fit n (F .degree) m .0)) sym))
+    rw (local-taylor F u H e) (≡-by (ap (λ x. taylor F u e *ℤ x) (shifts-*ℤ e a (total a) (total e) (pos H) σ (l ∙ sym (j .0)) sym))
     (ring (taylor F u e ∷ shifts t e a ∷ pos (chooses e a) ∷ powers σ (e ∸ a) ∷ pow (pos H) (total a) ∷ pow (pos H) (total e) ∷ [])
     (λ t x c y p q. t ⊗ x ⊗ p ⊖ t ⊗ q ⊗ c ⊗ y ≐ t ⊗ (x ⊗ p) ⊖ t ⊗ (c ⊗ y ⊗ q)) tt))))
 

@@ -11,15 +11,12 @@ use Rattle.algebra.proofs.Order.{≤ℤ-by, nonneg, pos-mono}
 use Rattle.algebra.proofs.Absolute.{natAbs-bound}
 use Rattle.algebra.proofs.Ring.{ring, _⊕_, _⊖_, _⊗_, ⊝_, #_, _≐_}
 use Rattle.forms.specs.Vectors.{total}
-use Rattle.forms.specs.Points.{Point, powers}
+use Rattle.forms.specs.Points.{powers}
+use Rattle.forms.specs.Straight.{against, unit, turning}
 use Rattle.forms.proofs.Vectors.{zeros}
 use Rattle.forms.proofs.Points.{powers-zero}
 
 -- ---- the sign against g: g times it is -|g|
-unfoldable pub against : ℤ → ℤ
-against (pos n) = negsuc 0
-against (negsuc n) = pos 1
-
 pub natAbs-against : (g : ℤ) → natAbs (against g) ≡ 1
 unfolding against
 natAbs-against (pos n) = refl
@@ -40,17 +37,7 @@ against-near (negsuc n) c h = natAbs-bound {a = negsuc n +ℤ pos c *ℤ pos 1}
     (≤ℤ-by (pos-mono h) (ring (pos (suc n) ∷ pos c ∷ []) (λ m c. ⊝ m ⊕ c ⊗ # 1 ⊖ ⊝ c ≐ # 2 ⊗ c ⊖ m) tt))
     (≤ℤ-by (nonneg (suc n)) (ring (pos (suc n) ∷ pos c ∷ []) (λ m c. c ⊖ (⊝ m ⊕ c ⊗ # 1) ≐ m ⊖ # 0) tt))
 
--- ---- the vector of the variable v: 1 there and 0 elsewhere
-unfoldable pub unit : ℕ → ℕ → List ℕ
-unit zero v = []
-unit (suc n) zero = 1 ∷ replicate n 0
-unit (suc n) (suc v) = 0 ∷ unit n v
-
--- the signs against g at the n variables' vectors
-abbrev pub turning : ℕ → (List ℕ → ℤ) → Point
-turning n g v = against (g (unit n v))
-
--- g(a) σ^a = -|g(a)| wherever |a| = 1
+-- ---- g(a) σ^a = -|g(a)| wherever |a| = 1
 pub turning-linear : (n : ℕ) (g : List ℕ → ℤ) (a : List ℕ) → length a ≡ n → total a ≡ 1 → g a *ℤ powers (turning n g) a ≡ negℤ (pos (natAbs (g a)))
 unfolding total powers unit
 turning-linear zero g [] l t = absurd (omega arith)

@@ -1,17 +1,17 @@
 -- Taylor's formula: the value at a point near Q u, from the coefficients at u, and at Q u + H t from the local form.
 use mathlib.Core.Path.{_≡_, sym, _∙_, ap}
 use mathlib.Core.List.{List, [], _∷_, List·Memᴰ}
-use Prim.Native.Nat.{ℕ, _-_}
+use Prim.Native.Nat.{ℕ, _+_, _*_, _-_}
 use native.Mathlib.Omega.{arith}
 use lib.IntN.{ℤ, pos, _+ℤ_, _*ℤ_, pow}
 use Rattle.algebra.specs.Sum.{sum}
 use Rattle.algebra.proofs.Integer.{≡-by, *ℤ-assoc, *ℤ-idl, *ℤ-idr}
-use Rattle.algebra.proofs.Power.{one-pow}
+use Rattle.algebra.proofs.Power.{one-pow, pow-+, *ℤ-pow}
 use Rattle.algebra.proofs.Ring.{ring, _⊖_, _⊗_, _≐_}
 use Rattle.algebra.proofs.Sum.{sum-cong, sum-swap, *ℤ-sum, sum-*ℤ}
 use Rattle.forms.specs.Vectors.{total}
 use Rattle.forms.specs.Points.{Point, powers}
-use Rattle.forms.specs.Form.{Form, indices, scaled, value, local, corner}
+use Rattle.forms.specs.Form.{Form, indices, scaled, value, local-term, local, corner}
 use Rattle.forms.proofs.Vectors.{vectors-fit}
 use Rattle.forms.proofs.Points.{powers-*ℤ}
 use Rattle.forms.proofs.Shift.{shifts, powers-+, shifts-*ℤ}
@@ -23,7 +23,7 @@ taylor F u a = sum (indices F) (λ e. scaled F e *ℤ shifts u e a)
 -- G(a) = g(a) H^|a|
 pub local-taylor : (F : Form) (u : Point) (H : ℕ) (a : List ℕ) → local F u H a ≡ taylor F u a *ℤ pow (pos H) (total a)
 unfolding local taylor shifts
-local-taylor F u H a = simp (local, sum-*ℤ, *ℤ-assoc)
+local-taylor F u H a = simp (local, local-term, sum-*ℤ, *ℤ-assoc)
 
 module _ (F : Form) (u t : Point) (Q : ℕ) where
   -- the term of e
@@ -43,6 +43,15 @@ module _ (F : Form) (u t : Point) (Q : ℕ) where
   unfolding value taylor
   taylor-formula = sum-cong (indices F) (λ e m. expand m)
       ∙ sum-swap (indices F) (indices F) (λ e a. scaled F e *ℤ shifts u e a *ℤ powers t a *ℤ pow (pos Q) (F .degree - total a)) ∙ simp (← sum-*ℤ)
+
+-- at any offset t, from the local form: H^d F(Q u + t, Q) is the sum of G(a) t^a (Q H)^(d-|a|)
+pub taylor-local : (F : Form) (u : Point) (H : ℕ) (t : Point) (Q : ℕ) →
+    pow (pos H) (F .degree) *ℤ value F (λ v. pos Q *ℤ u v +ℤ t v) Q ≡ sum (indices F) (λ a. local F u H a *ℤ powers t a *ℤ pow (pos (Q * H)) (F .degree - total a))
+taylor-local F u H t Q = rw (taylor-formula F u t Q, *ℤ-sum) (sum-cong (indices F) (λ a m.
+    let d = F .degree in let s = vectors-fit (F .variables) d m .1 in let e : total a + (d - total a) ≡ d = omega arith in
+    let p : pow (pos H) d ≡ pow (pos H) (total a) *ℤ pow (pos H) (d - total a) = ap (pow (pos H)) (sym e) ∙ pow-+ (pos H) (total a) (d - total a) in
+    rw (local-taylor F u H a, *ℤ-pow (pos Q) (pos H), p)
+    (ring (taylor F u a ∷ powers t a ∷ pow (pos Q) (d - total a) ∷ pow (pos H) (total a) ∷ pow (pos H) (d - total a) ∷ []) (λ g t q h k. h ⊗ k ⊗ (g ⊗ t ⊗ q) ≐ g ⊗ h ⊗ t ⊗ (q ⊗ k)) tt)))
 
 -- F(Q u + H t, Q) is the sum of G(a) t^a Q^(d-|a|): the page's F(U0 + H e, V0 + H g), with e and g over the denominator Q
 pub local-formula : (F : Form) (u : Point) (H : ℕ) (t : Point) (Q : ℕ) →

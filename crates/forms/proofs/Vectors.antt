@@ -51,11 +51,13 @@ vectors-fit (suc n) d m =
     let (q, r) = vectors-fit n (d - i) l in let s = ⋯-member 0 d j in
     rw (← p) (ap suc q, omega arith)
 
-pub fit-vectors : (e : List ℕ) (d : ℕ) → total e ≤ d → List·Memᴰ e (vectors (length e) d)
+pub fit-vectors : (n d : ℕ) (e : List ℕ) → (length e ≡ n) × (total e ≤ d) → List·Memᴰ e (vectors n d)
 unfolding vectors total
-fit-vectors [] d h = List·Memᴰ·head refl
-fit-vectors (i ∷ e) d h =
-    member-flatMap (λ i. map (λ e. i ∷ e) (vectors (length e) (d - i))) (member-⋯ 0 d i (omega arith) (omega arith)) (Memᴰ·map (λ e. i ∷ e) (fit-vectors e (d - i) (omega arith)))
+fit-vectors zero d [] h = List·Memᴰ·head refl
+fit-vectors zero d (i ∷ e) h = absurd (omega arith)
+fit-vectors (suc n) d [] h = absurd (omega arith)
+fit-vectors (suc n) d (i ∷ e) h =
+    member-flatMap (λ i. map (λ e. i ∷ e) (vectors n (d - i))) (member-⋯ 0 d i (omega arith) (omega arith)) (Memᴰ·map (λ e. i ∷ e) (fit-vectors n (d - i) e (omega arith)))
 
 -- the only vector with |a| = 0
 pub zeros : (n : ℕ) (a : List ℕ) → length a ≡ n → total a ≡ 0 → a ≡ replicate n 0

@@ -1,10 +1,11 @@
 -- A polynomial in any number of variables: its values at fractional points, its local form over a box, and what is read off from that.
-use mathlib.Core.Bool.{Bool, _&&_, cond}
+use mathlib.Core.Path.{_≡_}
+use mathlib.Core.Bool.{Bool, false, cond}
 use mathlib.Core.List.{List}
 use Prim.Native.Nat.{ℕ, _+_, _*_, _-_, _^_, _≤_}
-use mathlib.Core.Path.{_≡_}
 use lib.Dec.{leb, eqb}
 use lib.IntN.{ℤ, pos, _+ℤ_, _-ℤ_, _*ℤ_, negℤ, natAbs, pow}
+use lib.ListN.{length}
 use Rattle.algebra.specs.MinMax.{minℤ, maxℤ}
 use Rattle.algebra.specs.Sum.{sum, sumℕ}
 use Rattle.forms.specs.Vectors.{total, vectors, chooses, _∸_, all-even}
@@ -17,7 +18,10 @@ pub record Form : Type 0 where
   pub scale : ℕ
   pub coefficient : List ℕ → ℤ
 
--- the vectors e with |e| ≤ d
+-- e has an exponent for each variable, and |e| ≤ d; all such e, in order
+abbrev pub Index : Form → List ℕ → Type 0
+Index F e = (length e ≡ F .variables) × (total e ≤ F .degree)
+
 abbrev pub indices : Form → List (List ℕ)
 indices F = vectors (F .variables) (F .degree)
 
@@ -26,8 +30,11 @@ unfoldable pub scaled : Form → List ℕ → ℤ
 scaled F e = F .coefficient e *ℤ pow (pos (F .scale)) (F .degree - total e)
 
 -- ---- the value at the point x/Q, times Q^d: the sum of A(e) S^(d-|e|) x^e Q^(d-|e|)
+abbrev pub value-term : Form → Point → ℕ → List ℕ → ℤ
+value-term F x Q e = scaled F e *ℤ powers x e *ℤ pow (pos Q) (F .degree - total e)
+
 unfoldable pub value : Form → Point → ℕ → ℤ
-value F x Q = sum (indices F) (λ e. scaled F e *ℤ powers x e *ℤ pow (pos Q) (F .degree - total e))
+value F x Q = sum (indices F) (λ e. value-term F x Q e)
 
 -- ---- the closed box of centre u and half-side H: the point x/Q lies in it
 abbrev pub InBox : Form → Point → ℕ → Point → ℕ → Type 0
@@ -42,21 +49,32 @@ pub record Meets (F : Form) (u : Point) (H : ℕ) : Type 0 where
   pub vanishes : value F x Q ≡ pos 0
 
 -- ---- the local form over the box: G(a), the sum of A(e) S^(d-|e|) C(e,a) u^(e-a) H^|a|
+abbrev pub local-term : Form → Point → ℕ → List ℕ → List ℕ → ℤ
+local-term F u H a e = scaled F e *ℤ pos (chooses e a) *ℤ powers u (e ∸ a) *ℤ pow (pos H) (total a)
+
 unfoldable pub local : Form → Point → ℕ → List ℕ → ℤ
-local F u H a = sum (indices F) (λ e. scaled F e *ℤ pos (chooses e a) *ℤ powers u (e ∸ a) *ℤ pow (pos H) (total a))
+local F u H a = sum (indices F) (λ e. local-term F u H a e)
 
--- ---- the two bounds: what g = G(a) adds to each of them
--- g itself at a = 0; elsewhere min(0,g) and max(0,g) in mode 0 where every exponent is even, and -|g| and |g| otherwise
-unfoldable pub low : ℕ → List ℕ → ℤ → ℤ
-low mode a g = cond (eqb (total a) 0) g (cond (eqb mode 0 && all-even a) (minℤ (pos 0) g) (negℤ (pos (natAbs g))))
+-- ---- the two bounds, in two modes: 0, modified affine, and 1, the centred form
+pub data Mode : Type 0 where
+  affine centred : Mode
 
-unfoldable pub high : ℕ → List ℕ → ℤ → ℤ
-high mode a g = cond (eqb (total a) 0) g (cond (eqb mode 0 && all-even a) (maxℤ (pos 0) g) (pos (natAbs g)))
+-- the even rule: mode 0, and every exponent even
+abbrev pub even-rule : Mode → List ℕ → Bool
+even-rule affine a = all-even a
+even-rule centred a = false
 
-unfoldable pub lower : Form → ℕ → Point → ℕ → ℤ
+-- what g = G(a) adds to each bound: g itself at a = 0; elsewhere min(0,g) and max(0,g) by the even rule, and -|g| and |g| without it
+unfoldable pub low : Mode → List ℕ → ℤ → ℤ
+low mode a g = cond (eqb (total a) 0) g (cond (even-rule mode a) (minℤ (pos 0) g) (negℤ (pos (natAbs g))))
+
+unfoldable pub high : Mode → List ℕ → ℤ → ℤ
+high mode a g = cond (eqb (total a) 0) g (cond (even-rule mode a) (maxℤ (pos 0) g) (pos (natAbs g)))
+
+unfoldable pub lower : Form → Mode → Point → ℕ → ℤ
 lower F mode u H = sum (indices F) (λ a. low mode a (local F u H a))
 
-unfoldable pub upper : Form → ℕ → Point → ℕ → ℤ
+unfoldable pub upper : Form → Mode → Point → ℕ → ℤ
 upper F mode u H = sum (indices F) (λ a. high mode a (local F u H a))
 
 -- ---- the bend: the sum of |G(a)| over |a| ≥ 2
@@ -80,6 +98,13 @@ corner u H σ v = u v +ℤ pos H *ℤ σ v
 unfoldable pub weight : Form → (ℕ → ℕ) → ℕ
 weight F R = F .scale ^ F .degree * sumℕ (indices F) (λ e. natAbs (F .coefficient e) * powersℕ R e)
 
--- the box lies within the limits: |u| + H ≤ S R at each variable
+-- the box lies within the limits: |u| + H ≤ S R at each variable; so does the whole point x: |x| ≤ S R
 abbrev pub Limited : Form → Point → ℕ → (ℕ → ℕ) → Type 0
 Limited F u H R = Each (F .variables) (λ v. natAbs (u v) + H ≤ F .scale * R v)
+
+abbrev pub PointLimited : Form → Point → (ℕ → ℕ) → Type 0
+PointLimited F x R = Each (F .variables) (λ v. natAbs (x v) ≤ F .scale * R v)
+
+-- ---- the same polynomial, with lengths counted in units c times as fine
+abbrev pub finer : ℕ → Form → Form
+finer c F = record { variables = F .variables; degree = F .degree; scale = c * F .scale; coefficient = F .coefficient }

@@ -2,4 +2,5 @@
 pub mod Vectors
 pub mod Points
 pub mod Form
+pub mod Straight
 pub mod Plane

@@ -1,8 +1,10 @@
 -- The plane: forms, points and limits with two variables.
+use mathlib.Core.Bool.{Bool, false, _&&_}
 use mathlib.Core.List.{List, [], _∷_}
-use Prim.Native.Nat.{ℕ, zero, suc}
-use lib.IntN.{ℤ}
-use Rattle.forms.specs.Form.{Form}
+use Prim.Native.Nat.{ℕ, zero, suc, _%_}
+use lib.Dec.{eqb}
+use lib.IntN.{ℤ, pos, _+ℤ_, _-ℤ_}
+use Rattle.forms.specs.Form.{Form, Mode, affine, centred}
 
 -- x at the first variable and y at the second
 abbrev pub pair {ℓ} : {A : Type ℓ} → A → A → ℕ → A
@@ -17,3 +19,12 @@ at-pair A (i ∷ j ∷ e) = A i j
 
 abbrev pub plane : ℕ → ℕ → (ℕ → ℕ → ℤ) → Form
 plane d S A = record { variables = 2; degree = d; scale = S; coefficient = at-pair A }
+
+-- the even rule at (a,b): mode 0, a and b both even
+abbrev pub even-pair : Mode → ℕ → ℕ → Bool
+even-pair affine a b = eqb (a % 2) 0 && eqb (b % 2) 0
+even-pair centred a b = false
+
+-- P at the four corners of the square of centre (U0,V0) and half-side H: lower left, lower right, upper left, upper right
+abbrev pub AtCorners : ℤ → ℤ → ℕ → (ℤ → ℤ → Type 0) → Type 0
+AtCorners U0 V0 H P = P (U0 -ℤ pos H) (V0 -ℤ pos H) × P (U0 +ℤ pos H) (V0 -ℤ pos H) × P (U0 -ℤ pos H) (V0 +ℤ pos H) × P (U0 +ℤ pos H) (V0 +ℤ pos H)

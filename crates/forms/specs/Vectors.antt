@@ -16,13 +16,13 @@ unfoldable pub vectors : ℕ → ℕ → List (List ℕ)
 vectors zero d = [] ∷ []
 vectors (suc n) d = flatMap (λ i. map (λ e. i ∷ e) (vectors n (d - i))) (0 ⋯ d)
 
--- C(e,a), the product of the binomial coefficients: zero unless a is at most e at each variable
+-- C(e,a), the product of the binomial coefficients, of two vectors of one length: zero unless a is at most e at each variable
 unfoldable pub chooses : List ℕ → List ℕ → ℕ
 chooses [] a = 1
 chooses (i ∷ e) [] = 1
 chooses (i ∷ e) (k ∷ a) = choose i k * chooses e a
 
--- e - a, at each variable, where a is at most e
+-- e - a, at each variable, where a is at most e (cut off at zero elsewhere, where C(e,a) is zero)
 infixl 6 _∸_
 unfoldable pub _∸_ : List ℕ → List ℕ → List ℕ
 [] ∸ a = []
