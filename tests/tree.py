@@ -33,7 +33,7 @@ def promises():
         text = path.read_text() if path.exists() else ""
         for name in re.findall(r"`([^`]+)`", names):
             cited += 1
-            if not re.search(rf"^\s*((unfoldable|abbrev) )*pub (record )?{re.escape(name)} ", text, re.M):
+            if not re.search(rf"^\s*((unfoldable|abbrev) )*pub ((record|data) )?{re.escape(name)} ", text, re.M):
                 yield f"docs/PROMISES.md cites {name}, which {file} does not declare"
     if not cited:
         yield "docs/PROMISES.md cites no theorem"
