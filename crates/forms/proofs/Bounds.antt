@@ -1,6 +1,5 @@
 -- What a coefficient of the local form gives to the bounds and to the bend, and the opposite form, which turns lower bounds into upper ones.
 use mathlib.Core.Path.{_≡_, refl}
-use mathlib.Core.Bool.{Bool, true, false, cond}
 use mathlib.Core.List.{List}
 use Prim.Native.Nat.{ℕ, _≤_, _<_}
 use native.Mathlib.Nat as Nat
@@ -8,7 +7,7 @@ use native.Mathlib.Omega.{arith}
 use lib.Dec.{T, eqb, eqb→eq, leb→le, nleb→lt}
 use lib.IntN.{ℤ, pos, negℤ, natAbs, negℤ-negℤ}
 use Rattle.algebra.specs.MinMax.{minℤ}
-use Rattle.algebra.proofs.Choice.{choice}
+use Rattle.algebra.proofs.Choice.{choice, cond-ap}
 use Rattle.algebra.proofs.Integer.{negℤ-*ℤ}
 use Rattle.algebra.proofs.Order.{nonneg, ≤ℤ-trans, negℤ-mono}
 use Rattle.algebra.proofs.Absolute.{natAbs-negℤ, natAbs-bound, -natAbs-≤ℤ}
@@ -44,13 +43,9 @@ natAbs-low mode a g = low-cases (λ x. natAbs x ≤ natAbs g) mode a g (λ z. Na
     (Nat.le-of-eq (natAbs-negℤ (pos (natAbs g))))
 
 -- ---- the upper bound: the lower bound at -g, with the other sign
-negℤ-cond : (c : Bool) (x y : ℤ) → negℤ (cond c x y) ≡ cond c (negℤ x) (negℤ y)
-negℤ-cond true x y = refl
-negℤ-cond false x y = refl
-
 pub high-low : (mode : Mode) (a : List ℕ) (g : ℤ) → high mode a g ≡ negℤ (low mode a (negℤ g))
 unfolding low high
-high-low mode a g = simp (negℤ-cond, negℤ-minℤ, negℤ-negℤ, natAbs-negℤ)
+high-low mode a g = simp (cond-ap negℤ, negℤ-minℤ, negℤ-negℤ, natAbs-negℤ)
 
 pub natAbs-high : (mode : Mode) (a : List ℕ) (g : ℤ) → natAbs (high mode a g) ≤ natAbs g
 natAbs-high mode a g = rw (high-low, natAbs-negℤ, ← (natAbs-negℤ g)) (natAbs-low mode a (negℤ g))

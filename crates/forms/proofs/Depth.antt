@@ -1,11 +1,11 @@
 -- A finer scale, as a deeper sheet has: with the scale, the centre and the half-side all times c, the form, both bounds and the bend are times c^d.
-use mathlib.Core.Path.{_≡_, refl, sym, _∙_, ap, ap₂}
-use mathlib.Core.Bool.{Bool, true, false, cond}
+use mathlib.Core.Path.{_≡_, sym, _∙_, ap, ap₂}
 use mathlib.Core.List.{List, [], _∷_}
 use Prim.Native.Nat.{ℕ, _+_, _*_, _-_, _^_}
 use native.Mathlib.Nat as Nat
 use native.Mathlib.Omega.{arith}
-use lib.IntN.{ℤ, pos, _*ℤ_, natAbs, pow, *ℤ-zero}
+use lib.IntN.{ℤ, pos, _*ℤ_, pow, *ℤ-zero}
+use Rattle.algebra.proofs.Choice.{cond-ap}
 use Rattle.algebra.proofs.Integer.{≡-by, *ℤ-negℤ}
 use Rattle.algebra.proofs.Power.{*ℤ-pow, pow-+, pos-pow}
 use Rattle.algebra.proofs.Absolute.{natAbs-*ℤ}
@@ -14,30 +14,22 @@ use Rattle.algebra.proofs.Ring.{ring, _⊖_, _⊗_, _≐_}
 use Rattle.algebra.proofs.Sum.{sum-cong, *ℤ-sum, sumℕ-cong, *-sumℕ}
 use Rattle.forms.specs.Vectors.{total, chooses, _∸_}
 use Rattle.forms.specs.Points.{Point, powers}
-use Rattle.forms.specs.Form.{Form, indices, scaled, local-term, local, Mode, low, high, lower, upper, bends, bent, bend, finer, Index}
+use Rattle.forms.specs.Form.{Form, indices, scaled, local-term, local, Mode, low, high, lower, upper, bent, bend, finer, Index}
 use Rattle.forms.proofs.Vectors.{vectors-fit}
 use Rattle.forms.proofs.Shift.{shifts, shifts-*ℤ}
 use Rattle.forms.proofs.Bounds.{high-low}
 
 -- ---- one coefficient
-*ℤ-cond : (c : ℤ) (b : Bool) (x y : ℤ) → c *ℤ cond b x y ≡ cond b (c *ℤ x) (c *ℤ y)
-*ℤ-cond c true x y = refl
-*ℤ-cond c false x y = refl
-
 low-* : (mode : Mode) (a : List ℕ) (c : ℕ) (g : ℤ) → low mode a (pos c *ℤ g) ≡ pos c *ℤ low mode a g
 unfolding low
-low-* mode a c g = simp (*ℤ-cond, *ℤ-minℤ, *ℤ-zero, *ℤ-negℤ, natAbs-*ℤ)
+low-* mode a c g = simp (cond-ap (λ x. pos c *ℤ x), *ℤ-minℤ, *ℤ-zero, *ℤ-negℤ, natAbs-*ℤ)
 
 high-* : (mode : Mode) (a : List ℕ) (c : ℕ) (g : ℤ) → high mode a (pos c *ℤ g) ≡ pos c *ℤ high mode a g
 high-* mode a c g = simp (high-low, ← *ℤ-negℤ, low-*)
 
 bent-* : (a : List ℕ) (c : ℕ) (g : ℤ) → bent a (pos c *ℤ g) ≡ c * bent a g
 unfolding bent
-bent-* a c g = go (bends a)
-  where
-    go : (b : Bool) → cond b (natAbs (pos c *ℤ g)) 0 ≡ c * cond b (natAbs g) 0
-    go true = natAbs-*ℤ (pos c) g
-    go false = sym (Nat.mul-zero c)
+bent-* a c g = simp (cond-ap (λ n. c * n), natAbs-*ℤ, Nat.mul-zero)
 
 -- ---- all of them
 module _ (c : ℕ) (F : Form) (u : Point) (H : ℕ) where
