@@ -1,44 +1,64 @@
 """Each must-fail edit is refused by the facts that its 'refused:' lines name.
 
-An edit that only makes a proof unfit (a name that is missing, a text that does not parse) shows nothing. So every edit says,
-in lines 'refused: FILE DECLARATION', which declarations the prover must refuse: the first of them is the first that it refuses,
-and the others are refused too, for themselves and not because they cite another that was. This looks them up in the logs that
-`rt ci` leaves under target/must-fail/.
+An edit that only makes a proof unfit (a name that is missing, a text that is quoted in a proof) shows nothing. So every edit says, in
+lines 'refused: FILE DECLARATION', which declarations the prover must refuse. Each of them is refused for itself, and not because it
+cites another that was; the first that is refused at all is among them; and an edit of a definition is refused at a sample, too, a
+computation with numbers in a file Samples.antt, which no rewording of a proof can spoil. This reads the logs that `rt ci` leaves under
+target/must-fail/.
 """
 import pathlib
 import re
 import sys
 
 ROOT = pathlib.Path(__file__).resolve().parent.parent
-ERROR = re.compile(r"^(?P<file>\S+):\d+:\d+: error: (?:in )?`(?P<name>[^`]+)`: (?P<words>.*)")
-UNFIT = ("that can be named from here", "is not in scope", "parse", "Parse", "has no file")
+ERROR = re.compile(r"^(?P<file>\S+):\d+:\d+: error: (?:in )?`(?P<name>[^`]+)`: ")
+NAMELESS = re.compile(r"^\S+:\d+:\d+: error: ")
+UNFIT = ("that can be named from here", "is not in scope", "it has no file")
 FOLLOWS = "was not admitted"
+
+
+def messages(log):
+    """The errors of a log, each with the indented lines that continue it."""
+    whole = []
+    for line in log.read_text().splitlines():
+        if NAMELESS.match(line):
+            whole.append(line)
+        elif whole and line.startswith("  "):
+            whole[-1] += " " + line.strip()
+    return whole
 
 
 def judge(edit):
     """What is wrong with the refusal of an edit, or nothing."""
-    crate, label = edit.parent.parent.name, edit.stem
-    said = re.findall(r"^refused: (\S+) (\S+)$", edit.read_text(), re.M)
-    if not said:
-        return "has no line 'refused: FILE DECLARATION'"
-    where = ROOT / "target" / "must-fail" / crate / label
+    text = edit.read_text()
+    lines = re.findall(r"^refused:.*$", text, re.M)
+    said = [tuple(line.split()[1:]) for line in lines]
+    if not said or any(len(fact) != 2 for fact in said):
+        return "has no lines 'refused: FILE DECLARATION', or a malformed one"
+    where = ROOT / "target" / "must-fail" / edit.parent.parent.name / edit.stem
     log = where / ".log"
     if not log.exists():
         return "was not tried: target/must-fail has no log of it"
     found = []
-    for line in log.read_text().splitlines():
-        if ": error" not in line or FOLLOWS in line:
+    for message in messages(log):
+        if FOLLOWS in message:
             continue
-        error = ERROR.match(line)
-        if not error or any(word in line for word in UNFIT):
-            return f"is refused for want of a name, not of a fact: {line[:200]}"
+        error = ERROR.match(message)
+        if not error or any(word in message for word in UNFIT):
+            if not found:
+                return f"is refused for want of a name, not of a fact: {message[:200]}"
+            continue
         found.append((error["file"].removeprefix(f"{where}/"), error["name"]))
     if not found:
         return "has no error in its log"
-    if found[0] != said[0]:
-        return f"is refused first at {' '.join(found[0])}, not at {' '.join(said[0])}"
+    if found[0] not in said:
+        return f"is refused first at {' '.join(found[0])}, which it does not name"
     missing = [" ".join(fact) for fact in said if fact not in found]
-    return f"is not refused at {', '.join(missing)}" if missing else None
+    if missing:
+        return f"is not refused at {', '.join(missing)}"
+    if re.search(r"^file: specs/", text, re.M) and not any(file.endswith("Samples.antt") for file, _ in said):
+        return "changes a definition and names no sample that refuses it"
+    return None
 
 
 def main():

@@ -1,6 +1,8 @@
 """The tree keeps its promises about itself.
 
-- docs/PROMISES.md names theorems by file and name: each is declared, and public, in that file.
+- docs/PROMISES.md names theorems by file and name: each is declared, and public, in that file. It names each must-fail edit
+  once.
+- Every file of a crate that a document names stands in the tree.
 - No axiom and no hole stands in a crate.
 - No file of a crate is over 400 lines, and none brings in a name that it does not use.
 - No tracked file speaks of a place on somebody's machine.
@@ -37,6 +39,21 @@ def promises():
                 yield f"docs/PROMISES.md cites {name}, which {file} does not declare"
     if not cited:
         yield "docs/PROMISES.md cites no theorem"
+
+
+def edits():
+    text = (ROOT / "docs" / "PROMISES.md").read_text()
+    named = re.findall(r"^\| `(\w+/must-fail/\w+)` ", text, re.M)
+    tried = [f"{p.parent.parent.name}/must-fail/{p.stem}" for p in ROOT.glob("crates/*/must-fail/*.edit")]
+    for name in sorted(set(named) ^ set(tried)) + sorted({n for n in named if named.count(n) > 1}):
+        yield f"docs/PROMISES.md and crates/ do not agree on the edit {name}"
+
+
+def mentions():
+    for page in sorted(ROOT.glob("docs/*.md")) + [ROOT / "README.md"]:
+        for file in re.findall(r"`((?:crates|tests|docs|\.ci)/[^`*{ ]+)`", page.read_text()):
+            if not (ROOT / file).exists():
+                yield f"{page.relative_to(ROOT)} names {file}, which is not in the tree"
 
 
 def axioms_and_holes():
@@ -80,7 +97,7 @@ def places():
 
 
 def main():
-    faults = [fault for check in (promises, axioms_and_holes, lengths, imports, places) for fault in check()]
+    faults = [fault for check in (promises, edits, mentions, axioms_and_holes, lengths, imports, places) for fault in check()]
     for fault in faults:
         print(fault)
     print(f"tree: {len(faults)} faults in {len(sources())} source files")

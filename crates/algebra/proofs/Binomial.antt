@@ -124,3 +124,9 @@ module _ (u : ℤ) (H : ℕ) where
   pub entry-size : (n k : ℕ) → natAbs (entry u H n k) ≤ (natAbs u + H) ^ n
   unfolding entry
   entry-size n k = simp (natAbs-*ℤ, natAbs-pow) (binomial-term-size (natAbs u) H n k)
+
+  -- and so are the two products of Pascal's rule, one row on
+  pub entry-step-size : (n k : ℕ) → (natAbs (pos H *ℤ entry u H n k) ≤ (natAbs u + H) ^ suc n) × (natAbs (u *ℤ entry u H n k) ≤ (natAbs u + H) ^ suc n)
+  entry-step-size n k =
+      let s = entry-size n k in let w = natAbs u + H in
+      rw (natAbs-*ℤ (pos H), natAbs-*ℤ u, Nat.pow-suc w n, Nat.mul-comm (w ^ n) w) (Nat.mul-le-mul (Nat.le-add-left H (natAbs u)) s, Nat.mul-le-mul (Nat.le-add-right (natAbs u) H) s)

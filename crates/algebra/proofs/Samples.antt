@@ -1,16 +1,41 @@
--- The tools at work: what the solver proves, and how an identity or an order is carried over from one in hand.
-use mathlib.Core.Path.{_≡_, ap}
-use mathlib.Core.List.{[], _∷_}
+-- The definitions at numbers, and the tools at work: what the solver proves, and how an identity or an order is carried over from one in hand.
+use mathlib.Core.Path.{_≡_, refl, ap}
+use mathlib.Core.List.{[], _∷_, map}
 use Prim.Native.Nat.{ℕ, _+_, _*_}
-use lib.IntN.{ℤ, pos, _+ℤ_, _-ℤ_, _*ℤ_, negℤ, natAbs, pow}
+use lib.IntN.{ℤ, pos, negsuc, one, _+ℤ_, _-ℤ_, _*ℤ_, negℤ, natAbs, pow}
 use lib.Signed.{_≤ℤ_}
-use Rattle.algebra.specs.Sum.{sum, _⋯_}
+use Rattle.algebra.specs.Sum.{sum, run, span, _⋯_}
+use Rattle.algebra.specs.Binomial.{choose, entry}
+use Rattle.algebra.specs.MinMax.{maxℤ, minℤ}
+use Rattle.algebra.specs.Triangle.{passed}
 use Rattle.algebra.proofs.Integer.{≡-by}
 use Rattle.algebra.proofs.Order.{≤ℤ-by, +ℤ-mono, *ℤ-mono₂, signs, bounds}
 use Rattle.algebra.proofs.Sum.{sum-+, *ℤ-sum}
 use Rattle.algebra.proofs.Ring.{ring, _⊕_, _⊖_, _⊗_, ⊝_, _⋆_, #_, _≐_}
 
--- a factorisation in three variables
+-- ---- the definitions at numbers
+pub ranges : (2 ⋯ 4 ≡ 2 ∷ 3 ∷ 4 ∷ []) × (3 ⋯ 2 ≡ []) × (span 2 4 ≡ 2 ∷ 3 ∷ [])
+unfolding run span _⋯_
+ranges = (refl, refl, refl)
+
+pub sums : sum (1 ⋯ 4) (λ i. pos (i * i)) ≡ pos 30
+unfolding sum run span _⋯_
+sums = refl
+
+pub binomials : (map (choose 4) (0 ⋯ 5) ≡ 1 ∷ 4 ∷ 6 ∷ 4 ∷ 1 ∷ 0 ∷ []) × (map (entry (negsuc 2) 2 3) (0 ⋯ 3) ≡ negsuc 26 ∷ pos 54 ∷ negsuc 35 ∷ pos 8 ∷ [])
+unfolding choose entry pow one run span _⋯_
+binomials = (refl, refl)
+
+pub extremes : (maxℤ (pos 2) (negsuc 4) ≡ pos 2) × (maxℤ (negsuc 4) (pos 2) ≡ pos 2) × (minℤ (pos 2) (negsuc 4) ≡ negsuc 4) × (minℤ (negsuc 4) (pos 2) ≡ negsuc 4)
+unfolding maxℤ minℤ
+extremes = (refl, refl, refl, refl)
+
+-- loops from (1,1) with d 4, at the counters (2,2): the row 1 with its columns 1, 2 and 3, and the column 1 of the row 2
+pub loops : passed 4 (λ i j. pos (10 * i + j)) 1 1 2 2 ≡ pos (11 + 12 + 13 + 21)
+unfolding passed sum run span _⋯_
+loops = refl
+
+-- ---- the solver: a factorisation in three variables
 cubes : (a b c : ℤ) → pow a 3 +ℤ pow b 3 +ℤ pow c 3 -ℤ pos 3 *ℤ a *ℤ b *ℤ c ≡ (a +ℤ b +ℤ c) *ℤ (pow a 2 +ℤ pow b 2 +ℤ pow c 2 -ℤ a *ℤ b -ℤ b *ℤ c -ℤ c *ℤ a)
 cubes a b c = ring (a ∷ b ∷ c ∷ []) (λ a b c. a ⋆ 3 ⊕ b ⋆ 3 ⊕ c ⋆ 3 ⊖ # 3 ⊗ a ⊗ b ⊗ c ≐ (a ⊕ b ⊕ c) ⊗ (a ⋆ 2 ⊕ b ⋆ 2 ⊕ c ⋆ 2 ⊖ a ⊗ b ⊖ b ⊗ c ⊖ c ⊗ a)) tt
 

@@ -1,4 +1,4 @@
--- A triangle of terms f(i,j), i + j ≤ d, passed row by row with two counters, as nested loops do: what has been added, and its size.
+-- What nested loops have added of a triangle of terms: step by step, and its size.
 use mathlib.Core.Path.{_≡_, sym, _∙_, ap, ap₂}
 use Prim.Native.Nat.{ℕ, suc, _+_, _-_, _≤_, _<_}
 use native.Mathlib.Nat as Nat
@@ -6,17 +6,10 @@ use native.Mathlib.Decide.{decLe}
 use native.Mathlib.Omega.{arith}
 use lib.IntN.{ℤ, pos, _+ℤ_, natAbs, +ℤ-assoc, +ℤ-idl, +ℤ-idr}
 use Rattle.algebra.specs.Sum.{sum, sumℕ, run, span, _⋯_}
+use Rattle.algebra.specs.Triangle.{passed, triangle}
 use Rattle.algebra.proofs.Absolute.{natAbs-+ℤ}
 use Rattle.algebra.proofs.Sum.{sum-++, sumℕ-mono, natAbs-sum, natAbs-sum-le}
 use Rattle.algebra.proofs.Run.{span-++, ⋯-member, sum-span-none, sum-span-next, sumℕ-span-none, sumℕ-span-next, sum-span-zero, sumℕ-span-part}
-
--- the rows from a on below i, each from the column b on, and of the row i the columns from b on below j
-unfoldable pub passed : ℕ → (ℕ → ℕ → ℤ) → ℕ → ℕ → ℕ → ℕ → ℤ
-passed d f a b i j = sum (span a i) (λ k. sum (b ⋯ (d - k)) (f k)) +ℤ sum (span b j) (f i)
-
--- the whole triangle, of natural numbers
-abbrev pub triangle : ℕ → (ℕ → ℕ → ℕ) → ℕ
-triangle d g = sumℕ (0 ⋯ d) (λ i. sumℕ (0 ⋯ (d - i)) (g i))
 
 -- ---- the steps of the loops
 module _ (d : ℕ) (f : ℕ → ℕ → ℤ) (a b : ℕ) where

@@ -2,3 +2,5 @@
 pub mod Sum
 pub mod Binomial
 pub mod MinMax
+pub mod Triangle
+pub mod OrderedRing

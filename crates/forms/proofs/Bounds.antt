@@ -15,7 +15,9 @@ use Rattle.algebra.proofs.MinMax.{minℤ-≤ℤ, minℤ-greatest, negℤ-minℤ
 use Rattle.algebra.proofs.Sum.{negℤ-sum}
 use Rattle.forms.specs.Vectors.{total, all-even}
 use Rattle.forms.specs.Points.{Point}
-use Rattle.forms.specs.Form.{Form, scaled, value-term, value, local-term, local, Mode, affine, centred, even-rule, low, high, lower, upper, bends, bent, bend}
+use Rattle.forms.specs.Polynomial.{Polynomial, scaled, value-term, value}
+use Rattle.forms.specs.LocalForm.{local-term, local}
+use Rattle.forms.specs.Bounds.{Mode, affine, centred, even-rule, low, high, lower, upper, bends, bent, bend}
 use Rattle.forms.proofs.Vectors.{even-total}
 
 -- ---- the lower bound, by the three cases of its definition
@@ -64,10 +66,10 @@ unfolding bent
 bent-le a g = choice (λ n. n ≤ natAbs g) (bends a) (natAbs g) 0 (λ t. Nat.le-refl (natAbs g)) (λ t. omega arith)
 
 -- ---- the opposite form
-abbrev pub opposite : Form → Form
+abbrev pub opposite : Polynomial → Polynomial
 opposite F = record { variables = F .variables; degree = F .degree; scale = F .scale; coefficient = λ e. negℤ (F .coefficient e) }
 
-module _ (F : Form) where
+module _ (F : Polynomial) where
   scaled-opposite : (e : List ℕ) → scaled (opposite F) e ≡ negℤ (scaled F e)
   unfolding scaled
   scaled-opposite e = simp negℤ-*ℤ

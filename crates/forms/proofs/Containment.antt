@@ -18,7 +18,10 @@ use Rattle.algebra.proofs.Ring.{ring, _⊕_, _⊖_, _⊗_, ⊝_, #_, _≐_}
 use Rattle.algebra.proofs.Sum.{sum-mono, *ℤ-sum}
 use Rattle.forms.specs.Vectors.{total, all-even}
 use Rattle.forms.specs.Points.{Point, powers}
-use Rattle.forms.specs.Form.{Form, indices, value, InBox, local, Mode, low, lower, upper}
+use Rattle.forms.specs.Polynomial.{Polynomial, indices, value}
+use Rattle.forms.specs.Box.{InBox}
+use Rattle.forms.specs.LocalForm.{local}
+use Rattle.forms.specs.Bounds.{Mode, low, lower, upper}
 use Rattle.forms.proofs.Vectors.{vectors-fit}
 use Rattle.forms.proofs.Points.{powers-zero, powers-size, powers-even}
 use Rattle.forms.proofs.Taylor.{taylor, local-taylor, taylor-formula}
@@ -39,7 +42,7 @@ low-≤ℤ mode a g t c b at-none at-even h =
     (rw natAbs-*ℤ (≤ℤ-trans (≤ℤ-of-≡ (ring (pos (natAbs g) ∷ pos b ∷ pos c ∷ []) (λ g b c. c ⊗ ⊝ (g ⊗ b) ≐ ⊝ (g ⊗ (c ⊗ b))) tt))
     (≤ℤ-trans (negℤ-mono (pos-mono small)) (-natAbs-≤ℤ (g *ℤ t)))))
 
-module _ (F : Form) (u : Point) (H : ℕ) (x : Point) (Q : ℕ) (h : InBox F u H x Q) where
+module _ (F : Polynomial) (u : Point) (H : ℕ) (x : Point) (Q : ℕ) (h : InBox F u H x Q) where
   -- x - Q u
   offset : Point
   offset v = x v -ℤ pos Q *ℤ u v
@@ -66,7 +69,7 @@ module _ (F : Form) (u : Point) (H : ℕ) (x : Point) (Q : ℕ) (h : InBox F u H
       let e : x ≡ (λ v. pos Q *ℤ u v +ℤ offset v) = fun-ext (λ v. ring (x v ∷ pos Q ∷ u v ∷ []) (λ x q u. x ≐ q ⊗ u ⊕ (x ⊖ q ⊗ u)) tt) in
       ≤ℤ-trans (rw *ℤ-sum (sum-mono (indices F) (λ a m. low-term mode m))) (≤ℤ-of-≡ (sym (ap (λ y. value F y Q) e ∙ taylor-formula F u offset Q)))
 
-module _ (F : Form) (u : Point) (H : ℕ) (x : Point) (Q : ℕ) (h : InBox F u H x Q) (mode : Mode) where
+module _ (F : Polynomial) (u : Point) (H : ℕ) (x : Point) (Q : ℕ) (h : InBox F u H x Q) (mode : Mode) where
   -- F(x,Q) ≤ Q^d upper
   pub value-below-upper : value F x Q ≤ℤ (pow (pos Q) (F .degree) *ℤ upper F mode u H)
   value-below-upper = ≤ℤ-by (lower-below-value (opposite F) u H x Q h mode) (rw (upper-lower F mode u H, value-opposite F x Q)

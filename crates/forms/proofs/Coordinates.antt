@@ -6,11 +6,12 @@ use lib.IntN.{pos, _*ℤ_, pow}
 use Rattle.algebra.proofs.Sum.{sum-cong}
 use Rattle.forms.specs.Vectors.{total, chooses, _∸_}
 use Rattle.forms.specs.Points.{Point, Each}
-use Rattle.forms.specs.Form.{Form, indices, scaled, value, local}
+use Rattle.forms.specs.Polynomial.{Polynomial, indices, scaled, value}
+use Rattle.forms.specs.LocalForm.{local}
 use Rattle.forms.proofs.Vectors.{vectors-fit, length-∸}
 use Rattle.forms.proofs.Points.{powers-agree}
 
-module _ (F : Form) (x y : Point) (h : Each (F .variables) (λ v. x v ≡ y v)) where
+module _ (F : Polynomial) (x y : Point) (h : Each (F .variables) (λ v. x v ≡ y v)) where
   pub value-agree : (Q : ℕ) → value F x Q ≡ value F y Q
   unfolding value
   value-agree Q = sum-cong (indices F) (λ e m.

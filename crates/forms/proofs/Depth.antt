@@ -14,7 +14,9 @@ use Rattle.algebra.proofs.Ring.{ring, _⊖_, _⊗_, _≐_}
 use Rattle.algebra.proofs.Sum.{sum-cong, *ℤ-sum, sumℕ-cong, *-sumℕ}
 use Rattle.forms.specs.Vectors.{total, chooses, _∸_}
 use Rattle.forms.specs.Points.{Point, powers}
-use Rattle.forms.specs.Form.{Form, indices, scaled, local-term, local, Mode, low, high, lower, upper, bent, bend, finer, Index}
+use Rattle.forms.specs.Polynomial.{Polynomial, indices, scaled, finer, Index}
+use Rattle.forms.specs.LocalForm.{local-term, local}
+use Rattle.forms.specs.Bounds.{Mode, low, high, lower, upper, bent, bend}
 use Rattle.forms.proofs.Vectors.{vectors-fit}
 use Rattle.forms.proofs.Shift.{shifts, shifts-*ℤ}
 use Rattle.forms.proofs.Bounds.{high-low}
@@ -32,7 +34,7 @@ unfolding bent
 bent-* a c g = simp (cond-ap (λ n. c * n), natAbs-*ℤ, Nat.mul-zero)
 
 -- ---- all of them
-module _ (c : ℕ) (F : Form) (u : Point) (H : ℕ) where
+module _ (c : ℕ) (F : Polynomial) (u : Point) (H : ℕ) where
   pub local-finer : (a : List ℕ) → Index F a → local (finer c F) (λ v. pos c *ℤ u v) (c * H) a ≡ pos (c ^ F .degree) *ℤ local F u H a
   unfolding local scaled shifts
   local-finer a j = rw (← (pos-pow c (F .degree))) (

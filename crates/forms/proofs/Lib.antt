@@ -9,6 +9,7 @@ pub mod Signs
 pub mod Overshoot
 pub mod NoBend
 pub mod Size
+pub mod Demand3
 pub mod Parts
 pub mod Depth
 pub mod Coordinates

@@ -6,13 +6,15 @@ use Prim.Native.Nat.{ℕ, suc, _+_, _*_, _-_, _^_, _≤_, _<_}
 use native.Mathlib.Nat as Nat
 use lib.IntN.{ℤ, pos, _*ℤ_, natAbs, pow}
 use Rattle.algebra.specs.Sum.{sum, sumℕ, span}
-use Rattle.algebra.proofs.Triangle.{passed, passed-size, row-size, triangle-mono}
+use Rattle.algebra.specs.Triangle.{passed}
+use Rattle.algebra.proofs.Triangle.{passed-size, row-size, triangle-mono}
 use Rattle.forms.specs.Vectors.{total, vectors}
 use Rattle.forms.specs.Points.{powersℕ}
-use Rattle.forms.specs.Form.{scaled, weight}
+use Rattle.forms.specs.Polynomial.{scaled}
+use Rattle.forms.specs.Weight.{weight, majorant}
 use Rattle.forms.specs.Plane.{plane}
 use Rattle.forms.proofs.Plane.{pair-index, sumℕ-plane}
-use Rattle.forms.proofs.Size.{majorant, weight-majorants, factor-size, power-size}
+use Rattle.forms.proofs.Size.{weight-majorants, factor-size, power-size}
 
 -- ---- sums: where f(i,j) is at most g at (i,j), what the counters have passed of f is at most the sum of g
 module _ (d : ℕ) (f : ℕ → ℕ → ℤ) (g : List ℕ → ℕ) {n : ℕ} (le : (i j : ℕ) → i + j ≤ d → natAbs (f i j) ≤ g (i ∷ j ∷ [])) (h : sumℕ (vectors 2 d) g ≤ n) where

@@ -16,7 +16,10 @@ use Rattle.algebra.proofs.Ring.{ring, _⊕_, _⊖_, _⊗_, ⊝_, #_, _≐_}
 use Rattle.algebra.proofs.Sum.{sum-cong, sum-+, sum-*ℤ, negℤ-sum, pos-sumℕ, sumℕ-member}
 use Rattle.forms.specs.Vectors.{total}
 use Rattle.forms.specs.Points.{Point, powers}
-use Rattle.forms.specs.Form.{Form, indices, value, InBox, Meets, local, Mode, low, high, lower, upper, bent, bend}
+use Rattle.forms.specs.Polynomial.{Polynomial, indices, value}
+use Rattle.forms.specs.Box.{InBox, Meets}
+use Rattle.forms.specs.LocalForm.{local}
+use Rattle.forms.specs.Bounds.{Mode, low, high, lower, upper, bent, bend}
 use Rattle.forms.specs.Straight.{turning, zero-denominator, zero-point}
 use Rattle.forms.proofs.Vectors.{vectors-fit}
 use Rattle.forms.proofs.Points.{powers-zero, powers-*ℤ}
@@ -74,7 +77,7 @@ line-term a g s K d Q h k at-none at-single = elim (kind a g h) [
 ]
 
 -- ---- all of them
-module _ (F : Form) (u : Point) (H : ℕ) (straight : bend F u H ≡ 0) where
+module _ (F : Polynomial) (u : Point) (H : ℕ) (straight : bend F u H ≡ 0) where
   -- G(0), and the sum of the |G(a)| over |a| = 1
   constant : ℤ
   constant = sum (indices F) (λ a. constant-part a (local F u H a))
@@ -119,7 +122,7 @@ module _ (F : Form) (u : Point) (H : ℕ) (straight : bend F u H ≡ 0) where
       (≤ℤ-by lo (rw (lower-is mode) (ring (constant ∷ pos linear ∷ []) (λ c l. l ⊖ c ≐ # 0 ⊖ (c ⊖ l)) tt)))
 
 -- ---- the point lies in the box, and the value there is zero
-module _ (F : Form) (u : Point) (H : ℕ) (straight : bend F u H ≡ 0) (mode : Mode) (lo : lower F mode u H ≤ℤ pos 0) (up : pos 0 ≤ℤ upper F mode u H) where
+module _ (F : Polynomial) (u : Point) (H : ℕ) (straight : bend F u H ≡ 0) (mode : Mode) (lo : lower F mode u H ≤ℤ pos 0) (up : pos 0 ≤ℤ upper F mode u H) where
   C : ℤ
   C = constant F u H straight
 

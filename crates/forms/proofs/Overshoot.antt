@@ -13,7 +13,10 @@ use Rattle.algebra.proofs.Ring.{ring, _⊕_, _⊖_, _⊗_, ⊝_, #_, _≐_}
 use Rattle.algebra.proofs.Sum.{sum-mono, sum-+, *ℤ-sum, pos-sumℕ}
 use Rattle.forms.specs.Vectors.{total}
 use Rattle.forms.specs.Points.{Point, powers}
-use Rattle.forms.specs.Form.{Form, indices, value, local, Mode, low, lower, upper, bent, bend, Signs, corner}
+use Rattle.forms.specs.Polynomial.{Polynomial, indices, value}
+use Rattle.forms.specs.Box.{Signs, corner}
+use Rattle.forms.specs.LocalForm.{local}
+use Rattle.forms.specs.Bounds.{Mode, low, lower, upper, bent, bend}
 use Rattle.forms.specs.Straight.{turning}
 use Rattle.forms.proofs.Vectors.{vectors-fit}
 use Rattle.forms.proofs.Points.{powers-zero, powers-signs}
@@ -35,7 +38,7 @@ overshoot mode a g s at-none at-single h = go (total a) refl
         (ring (pos (natAbs g) ∷ (g *ℤ s) ∷ low mode a g ∷ []) (λ g x l. l ⊕ # 2 ⊗ g ⊖ x ≐ g ⊕ l ⊖ (x ⊕ ⊝ g)) tt))
 
 -- ---- at the corner with the signs against the linear coefficients, v - 2 bend ≤ lower
-module _ (F : Form) (u : Point) (H : ℕ) where
+module _ (F : Polynomial) (u : Point) (H : ℕ) where
   least : Point
   least = turning (F .variables) (local F u H)
 
@@ -55,7 +58,7 @@ module _ (F : Form) (u : Point) (H : ℕ) where
       rw (local-whole F u H least) (≤ℤ-by (≤ℤ-trans k (≤ℤ-of-≡ e))
       (ring (sum I (λ a. G a *ℤ powers least a) ∷ lower F mode u H ∷ pos (bend F u H) ∷ []) (λ s l b. l ⊖ (s ⊖ # 2 ⊗ b) ≐ l ⊕ # 2 ⊗ b ⊖ s) tt))
 
-module _ (F : Form) (u : Point) (H : ℕ) where
+module _ (F : Polynomial) (u : Point) (H : ℕ) where
   -- some corner value v has v - 2 bend ≤ lower, in both modes; and some corner value v has upper ≤ v + 2 bend
   pub lower-overshoot : (σ : Point) × Signs F σ × ((mode : Mode) → (value F (corner u H σ) 1 -ℤ pos (2 * bend F u H)) ≤ℤ lower F mode u H)
   lower-overshoot = (least F u H, least-signs F u H, low-corner F u H)

@@ -14,7 +14,10 @@ use Rattle.algebra.proofs.Ring.{ring, _⊕_, _⊖_, _⊗_, ⊝_, _≐_}
 use Rattle.algebra.proofs.Sum.{sum-cong, sum-swap, *ℤ-sum, sum-*ℤ, sumℕ-mono}
 use Rattle.forms.specs.Vectors.{total, chooses, _∸_}
 use Rattle.forms.specs.Points.{Point, powers}
-use Rattle.forms.specs.Form.{Form, Index, indices, scaled, InBox, local, Signs, corner, weight, Limited}
+use Rattle.forms.specs.Polynomial.{Polynomial, Index, indices, scaled}
+use Rattle.forms.specs.Box.{InBox, Signs, corner}
+use Rattle.forms.specs.LocalForm.{local}
+use Rattle.forms.specs.Weight.{weight, Limited}
 use Rattle.forms.specs.Straight.{against}
 use Rattle.forms.proofs.Vectors.{vectors-fit, chooses-≤-pow, length-∸}
 use Rattle.forms.proofs.Points.{powers-signs}
@@ -25,12 +28,12 @@ use Rattle.forms.proofs.Size.{local-sum-size}
 
 -- ---- the form of a part, from the form of the whole
 -- first each place is halved |a| times, exactly
-pub local-half : (F : Form) (u : Point) (H : ℕ) (a : List ℕ) → local F u (2 * H) a ≡ pow (pos 2) (total a) *ℤ local F u H a
+pub local-half : (F : Polynomial) (u : Point) (H : ℕ) (a : List ℕ) → local F u (2 * H) a ≡ pow (pos 2) (total a) *ℤ local F u H a
 local-half F u H a = rw (local-taylor F u (2 * H), local-taylor F u H, *ℤ-pow (pos 2) (pos H))
     (ring (taylor F u a ∷ pow (pos 2) (total a) ∷ pow (pos H) (total a) ∷ []) (λ t c h. t ⊗ (c ⊗ h) ≐ c ⊗ (t ⊗ h)) tt)
 
 -- the Taylor coefficients at u + t, from those at u
-taylor-moved : (F : Form) (u t : Point) (a : List ℕ) → taylor F (λ v. u v +ℤ t v) a ≡ sum (indices F) (λ b. taylor F u b *ℤ shifts t b a)
+taylor-moved : (F : Polynomial) (u t : Point) (a : List ℕ) → taylor F (λ v. u v +ℤ t v) a ≡ sum (indices F) (λ b. taylor F u b *ℤ shifts t b a)
 unfolding taylor
 taylor-moved F u t a =
     sum-cong (indices F) (λ e m. let (l, s) = vectors-fit (F .variables) (F .degree) m in
@@ -39,7 +42,7 @@ taylor-moved F u t a =
     ∙ simp (sum-*ℤ, *ℤ-assoc)
 
 -- then it is shifted by σ: the part has the sum of G(e) C(e,a) σ^(e-a), G being the halved form
-pub local-part : (F : Form) (u : Point) (H : ℕ) (σ : Point) (a : List ℕ) → Index F a →
+pub local-part : (F : Polynomial) (u : Point) (H : ℕ) (σ : Point) (a : List ℕ) → Index F a →
     local F (corner u H σ) H a ≡ sum (indices F) (λ e. local F u H e *ℤ pos (chooses e a) *ℤ powers σ (e ∸ a))
 unfolding shifts
 local-part F u H σ a j =
@@ -49,7 +52,7 @@ local-part F u H σ a j =
     (ring (taylor F u e ∷ shifts t e a ∷ pos (chooses e a) ∷ powers σ (e ∸ a) ∷ pow (pos H) (total a) ∷ pow (pos H) (total e) ∷ [])
     (λ t x c y p q. t ⊗ x ⊗ p ⊖ t ⊗ q ⊗ c ⊗ y ≐ t ⊗ (x ⊗ p) ⊖ t ⊗ (c ⊗ y ⊗ q)) tt))))
 
-module _ (F : Form) (u : Point) (H : ℕ) (σ : Point) (s : Signs F σ) where
+module _ (F : Polynomial) (u : Point) (H : ℕ) (σ : Point) (s : Signs F σ) where
   -- the terms of that sum are together at most the weight of the whole
   pub part-terms-size : (R : ℕ → ℕ) → Limited F u (2 * H) R → (a : List ℕ) → sumℕ (indices F) (λ e. natAbs (local F u H e *ℤ pos (chooses e a) *ℤ powers σ (e ∸ a))) ≤ weight F R
   part-terms-size R r a = Nat.le-trans (sumℕ-mono (indices F) (λ e m.
@@ -73,7 +76,7 @@ module _ (F : Form) (u : Point) (H : ℕ) (σ : Point) (s : Signs F σ) where
       let c = b v i in rw e (omega arith)
 
 -- ---- and every point of the whole is in a part
-pub whole-in-parts : (F : Form) (u : Point) (H : ℕ) (x : Point) (Q : ℕ) → InBox F u (2 * H) x Q → (σ : Point) × Signs F σ × InBox F (corner u H σ) H x Q
+pub whole-in-parts : (F : Polynomial) (u : Point) (H : ℕ) (x : Point) (Q : ℕ) → InBox F u (2 * H) x Q → (σ : Point) × Signs F σ × InBox F (corner u H σ) H x Q
 whole-in-parts F u H x Q b = (σ, (λ v i. natAbs-against (back v)), inside)
   where
     -- Q u - x

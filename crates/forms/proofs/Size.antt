@@ -16,31 +16,32 @@ use Rattle.algebra.proofs.Ring.{ring, _⊕_, _⊖_, _⊗_, #_, _≐_}
 use Rattle.algebra.proofs.Sum.{sum-cong, *ℤ-sum, pos-sumℕ, sumℕ-cong, sumℕ-mono, sumℕ-member, *-sumℕ, sumℕ-swap, natAbs-sum, natAbs-sum-part}
 use Rattle.forms.specs.Vectors.{total, chooses, _∸_}
 use Rattle.forms.specs.Points.{Point, powers, powersℕ}
-use Rattle.forms.specs.Form.{Form, Index, indices, scaled, value-term, value, InBox, local-term, local, Mode, low, high, lower, upper, bend, weight, Limited, PointLimited, Signs, corner}
+use Rattle.forms.specs.Polynomial.{Polynomial, Index, indices, scaled, value-term, value}
+use Rattle.forms.specs.Box.{InBox, Signs, corner}
+use Rattle.forms.specs.LocalForm.{local-term, local}
+use Rattle.forms.specs.Bounds.{Mode, low, high, lower, upper, bend}
+use Rattle.forms.specs.Weight.{weight, Limited, PointLimited, majorant}
 use Rattle.forms.proofs.Vectors.{vectors-fit, fit-vectors}
 use Rattle.forms.proofs.Points.{natAbs-powers, powers-equal, pos-powersℕ, powersℕ-*, powersℕ-mono}
 use Rattle.forms.proofs.Shift.{shifts, powers-+}
 use Rattle.forms.proofs.Bounds.{natAbs-low, natAbs-high, bent-le}
 
 -- ---- the weight as a sum of majorants
-unfoldable pub majorant : Form → (ℕ → ℕ) → List ℕ → ℕ
-majorant F R e = natAbs (scaled F e) * powersℕ (λ v. F .scale * R v) e
-
 -- |A(e)| S^(d-|e|) (S R)^e = S^d |A(e)| R^e
-majorant-is : (F : Form) (R : ℕ → ℕ) (e : List ℕ) → total e ≤ F .degree → majorant F R e ≡ F .scale ^ F .degree * (natAbs (F .coefficient e) * powersℕ R e)
+majorant-is : (F : Polynomial) (R : ℕ → ℕ) (e : List ℕ) → total e ≤ F .degree → majorant F R e ≡ F .scale ^ F .degree * (natAbs (F .coefficient e) * powersℕ R e)
 unfolding majorant scaled
 majorant-is F R e h =
     let s = F .scale in let k = F .degree - total e in let a = natAbs (F .coefficient e) in let r = powersℕ R e in let p : k + total e ≡ F .degree = omega arith in
     rw (natAbs-*ℤ, natAbs-pow, powersℕ-* e s R) (ap natAbs (ring (pos a ∷ pos (s ^ k) ∷ pos (s ^ total e) ∷ pos r ∷ []) (λ a x y r. a ⊗ x ⊗ (y ⊗ r) ≐ x ⊗ y ⊗ (a ⊗ r)) tt)
     ∙ ap (λ x. x * (a * r)) (sym (pow-add s k (total e)) ∙ ap (λ x. s ^ x) p))
 
-pub weight-majorants : (F : Form) (R : ℕ → ℕ) → weight F R ≡ sumℕ (indices F) (majorant F R)
+pub weight-majorants : (F : Polynomial) (R : ℕ → ℕ) → weight F R ≡ sumℕ (indices F) (majorant F R)
 unfolding weight
 weight-majorants F R = *-sumℕ (F .scale ^ F .degree) (indices F) (λ e. natAbs (F .coefficient e) * powersℕ R e)
     ∙ sumℕ-cong (indices F) (λ e m. sym (majorant-is F R e (vectors-fit (F .variables) (F .degree) m .1)))
 
 -- ---- the factors of one term: |A(e)| S^(d-|e|) m, and m itself where A(e) is not zero, for any m up to (S R)^e
-module _ (F : Form) (R : ℕ → ℕ) (e : List ℕ) (i : Index F e) where
+module _ (F : Polynomial) (R : ℕ → ℕ) (e : List ℕ) (i : Index F e) where
   pub factor-size : {m : ℕ} → m ≤ powersℕ (λ v. F .scale * R v) e → natAbs (scaled F e) * m ≤ weight F R
   unfolding majorant
   factor-size h = rw (weight-majorants F R) (Nat.le-trans (Nat.mul-le-mul-left (natAbs (scaled F e)) h) (sumℕ-member (majorant F R) (fit-vectors (F .variables) (F .degree) _ i)))
@@ -53,7 +54,7 @@ module _ (F : Form) (R : ℕ → ℕ) (e : List ℕ) (i : Index F e) where
       Nat.le-trans (Nat.le-trans (Nat.le-of-eq (sym (Nat.one-mul m))) (Nat.mul-le-mul-right m one)) (factor-size h)
 
 -- ---- sums on the way: where the terms are together at most the weight, so is each one, and the sum over any part of the indices
-module _ (F : Form) (R : ℕ → ℕ) (f : List ℕ → ℤ) (h : sumℕ (indices F) (λ e. natAbs (f e)) ≤ weight F R) where
+module _ (F : Polynomial) (R : ℕ → ℕ) (f : List ℕ → ℤ) (h : sumℕ (indices F) (λ e. natAbs (f e)) ≤ weight F R) where
   pub one-size : (e : List ℕ) → Index F e → natAbs (f e) ≤ weight F R
   one-size e i = Nat.le-trans (sumℕ-member (λ e. natAbs (f e)) (fit-vectors (F .variables) (F .degree) _ i)) h
 
@@ -64,7 +65,7 @@ module _ (F : Form) (R : ℕ → ℕ) (f : List ℕ → ℤ) (h : sumℕ (indice
   sum-size = Nat.le-trans (natAbs-sum (indices F) f) h
 
 -- ---- the terms of the local form
-module _ (F : Form) (u : Point) (H : ℕ) where
+module _ (F : Polynomial) (u : Point) (H : ℕ) where
   natAbs-term : (a e : List ℕ) → natAbs (local-term F u H a e) ≡ natAbs (scaled F e) * chooses e a * powersℕ (λ v. natAbs (u v)) (e ∸ a) * H ^ total a
   natAbs-term a e = simp (natAbs-*ℤ, natAbs-pow, natAbs-powers)
 
@@ -80,7 +81,7 @@ module _ (F : Form) (u : Point) (H : ℕ) where
       (ring (c ∷ pos (chooses e a) ∷ pos (powersℕ (λ v. natAbs (u v)) (e ∸ a)) ∷ pos (H ^ total a) ∷ []) (λ c b p h. c ⊗ b ⊗ p ⊗ h ≐ c ⊗ (b ⊗ p ⊗ h)) tt))) in
       ap natAbs (q ∙ ap (λ x. c *ℤ x) (pos-powersℕ e r))
 
-module _ (F : Form) (u : Point) (H : ℕ) (R : ℕ → ℕ) (h : Limited F u H R) where
+module _ (F : Polynomial) (u : Point) (H : ℕ) (R : ℕ → ℕ) (h : Limited F u H R) where
   -- all of them together
   pub all-terms-size : sumℕ (indices F) (λ a. sumℕ (indices F) (λ e. natAbs (local-term F u H a e))) ≤ weight F R
   unfolding majorant
@@ -120,7 +121,7 @@ module _ (F : Form) (u : Point) (H : ℕ) (R : ℕ → ℕ) (h : Limited F u H R
   bend-size = Nat.le-trans (sumℕ-mono (indices F) (λ a m. bent-le a (local F u H a))) local-sum-size
 
 -- ---- the terms of the value at a whole point within the limits, and the value
-module _ (F : Form) (x : Point) (R : ℕ → ℕ) (h : PointLimited F x R) where
+module _ (F : Polynomial) (x : Point) (R : ℕ → ℕ) (h : PointLimited F x R) where
   pub value-sum-size : sumℕ (indices F) (λ e. natAbs (value-term F x 1 e)) ≤ weight F R
   unfolding majorant
   value-sum-size = rw (weight-majorants F R) (sumℕ-mono (indices F) (λ e m. rw (one-pow, *ℤ-idr, natAbs-*ℤ, natAbs-powers)
@@ -131,7 +132,7 @@ module _ (F : Form) (x : Point) (R : ℕ → ℕ) (h : PointLimited F x R) where
   value-size = sum-size F R (value-term F x 1) value-sum-size
 
 -- ---- such points are the whole points of the box, its corners among them
-module _ (F : Form) (u : Point) (H : ℕ) where
+module _ (F : Polynomial) (u : Point) (H : ℕ) where
   pub box-limited : (R : ℕ → ℕ) (x : Point) → Limited F u H R → InBox F u H x 1 → PointLimited F x R
   box-limited R x h b v i =
       let near = rw (*ℤ-idl, Nat.one-mul) at (b v i) in let limit = h v i in

@@ -11,21 +11,23 @@ use Rattle.algebra.proofs.Ring.{ring, _⊖_, _⊗_, _≐_}
 use Rattle.algebra.proofs.Sum.{sum-cong, sum-swap, *ℤ-sum, sum-*ℤ}
 use Rattle.forms.specs.Vectors.{total}
 use Rattle.forms.specs.Points.{Point, powers}
-use Rattle.forms.specs.Form.{Form, indices, scaled, value, local-term, local, corner}
+use Rattle.forms.specs.Polynomial.{Polynomial, indices, scaled, value}
+use Rattle.forms.specs.Box.{corner}
+use Rattle.forms.specs.LocalForm.{local-term, local}
 use Rattle.forms.proofs.Vectors.{vectors-fit}
 use Rattle.forms.proofs.Points.{powers-*ℤ}
 use Rattle.forms.proofs.Shift.{shifts, powers-+, shifts-*ℤ}
 
 -- g(a), the sum of A(e) S^(d-|e|) C(e,a) u^(e-a)
-unfoldable pub taylor : Form → Point → List ℕ → ℤ
+unfoldable pub taylor : Polynomial → Point → List ℕ → ℤ
 taylor F u a = sum (indices F) (λ e. scaled F e *ℤ shifts u e a)
 
 -- G(a) = g(a) H^|a|
-pub local-taylor : (F : Form) (u : Point) (H : ℕ) (a : List ℕ) → local F u H a ≡ taylor F u a *ℤ pow (pos H) (total a)
+pub local-taylor : (F : Polynomial) (u : Point) (H : ℕ) (a : List ℕ) → local F u H a ≡ taylor F u a *ℤ pow (pos H) (total a)
 unfolding local taylor shifts
 local-taylor F u H a = simp (local, local-term, sum-*ℤ, *ℤ-assoc)
 
-module _ (F : Form) (u t : Point) (Q : ℕ) where
+module _ (F : Polynomial) (u t : Point) (Q : ℕ) where
   -- the term of e
   expand : {e : List ℕ} → List·Memᴰ e (indices F) → scaled F e *ℤ powers (λ v. pos Q *ℤ u v +ℤ t v) e *ℤ pow (pos Q) (F .degree - total e)
       ≡ sum (indices F) (λ a. scaled F e *ℤ shifts u e a *ℤ powers t a *ℤ pow (pos Q) (F .degree - total a))
@@ -45,7 +47,7 @@ module _ (F : Form) (u t : Point) (Q : ℕ) where
       ∙ sum-swap (indices F) (indices F) (λ e a. scaled F e *ℤ shifts u e a *ℤ powers t a *ℤ pow (pos Q) (F .degree - total a)) ∙ simp (← sum-*ℤ)
 
 -- at any offset t, from the local form: H^d F(Q u + t, Q) is the sum of G(a) t^a (Q H)^(d-|a|)
-pub taylor-local : (F : Form) (u : Point) (H : ℕ) (t : Point) (Q : ℕ) →
+pub taylor-local : (F : Polynomial) (u : Point) (H : ℕ) (t : Point) (Q : ℕ) →
     pow (pos H) (F .degree) *ℤ value F (λ v. pos Q *ℤ u v +ℤ t v) Q ≡ sum (indices F) (λ a. local F u H a *ℤ powers t a *ℤ pow (pos (Q * H)) (F .degree - total a))
 taylor-local F u H t Q = rw (taylor-formula F u t Q, *ℤ-sum) (sum-cong (indices F) (λ a m.
     let d = F .degree in let s = vectors-fit (F .variables) d m .1 in let e : total a + (d - total a) ≡ d = omega arith in
@@ -54,11 +56,11 @@ taylor-local F u H t Q = rw (taylor-formula F u t Q, *ℤ-sum) (sum-cong (indice
     (ring (taylor F u a ∷ powers t a ∷ pow (pos Q) (d - total a) ∷ pow (pos H) (total a) ∷ pow (pos H) (d - total a) ∷ []) (λ g t q h k. h ⊗ k ⊗ (g ⊗ t ⊗ q) ≐ g ⊗ h ⊗ t ⊗ (q ⊗ k)) tt)))
 
 -- F(Q u + H t, Q) is the sum of G(a) t^a Q^(d-|a|): the page's F(U0 + H e, V0 + H g), with e and g over the denominator Q
-pub local-formula : (F : Form) (u : Point) (H : ℕ) (t : Point) (Q : ℕ) →
+pub local-formula : (F : Polynomial) (u : Point) (H : ℕ) (t : Point) (Q : ℕ) →
     value F (λ v. pos Q *ℤ u v +ℤ pos H *ℤ t v) Q ≡ sum (indices F) (λ a. local F u H a *ℤ powers t a *ℤ pow (pos Q) (F .degree - total a))
 local-formula F u H t Q = taylor-formula F u (λ v. pos H *ℤ t v) Q ∙ sum-cong (indices F) (λ a m. rw (local-taylor F u H a, powers-*ℤ a (pos H) t)
     (ring (taylor F u a ∷ pow (pos H) (total a) ∷ powers t a ∷ pow (pos Q) (F .degree - total a) ∷ []) (λ g h t q. g ⊗ (h ⊗ t) ⊗ q ≐ g ⊗ h ⊗ t ⊗ q) tt))
 
 -- at a whole point: F(u + H t) is the sum of G(a) t^a
-pub local-whole : (F : Form) (u : Point) (H : ℕ) (t : Point) → value F (corner u H t) 1 ≡ sum (indices F) (λ a. local F u H a *ℤ powers t a)
+pub local-whole : (F : Polynomial) (u : Point) (H : ℕ) (t : Point) → value F (corner u H t) 1 ≡ sum (indices F) (λ a. local F u H a *ℤ powers t a)
 local-whole F u H t = simp (*ℤ-idl, one-pow, *ℤ-idr) at (local-formula F u H t 1)

@@ -1,10 +1,12 @@
 -- The plane: forms, points and limits with two variables.
 use mathlib.Core.Bool.{Bool, false, _&&_}
 use mathlib.Core.List.{List, [], _∷_}
-use Prim.Native.Nat.{ℕ, zero, suc, _%_}
+use Prim.Native.Nat.{ℕ, zero, suc, _+_, _*_, _-_, _^_, _%_}
 use lib.Dec.{eqb}
-use lib.IntN.{ℤ, pos, _+ℤ_, _-ℤ_}
-use Rattle.forms.specs.Form.{Form, Mode, affine, centred}
+use lib.IntN.{ℤ, pos, _+ℤ_, _-ℤ_, _*ℤ_, pow}
+use Rattle.algebra.specs.Binomial.{choose}
+use Rattle.forms.specs.Polynomial.{Polynomial}
+use Rattle.forms.specs.Bounds.{Mode, affine, centred}
 
 -- x at the first variable and y at the second
 abbrev pub pair {ℓ} : {A : Type ℓ} → A → A → ℕ → A
@@ -17,8 +19,12 @@ at-pair A [] = A 0 0
 at-pair A (i ∷ []) = A i 0
 at-pair A (i ∷ j ∷ e) = A i j
 
-abbrev pub plane : ℕ → ℕ → (ℕ → ℕ → ℤ) → Form
+abbrev pub plane : ℕ → ℕ → (ℕ → ℕ → ℤ) → Polynomial
 plane d S A = record { variables = 2; degree = d; scale = S; coefficient = at-pair A }
+
+-- the page's term of G(a,b) from A(i,j), with the scale 2^(k+1)
+abbrev pub page-term : ℕ → ℕ → (ℕ → ℕ → ℤ) → ℤ → ℤ → ℕ → ℕ → ℕ → ℕ → ℕ → ℤ
+page-term d k A U0 V0 H a b i j = A i j *ℤ pos (2 ^ ((k + 1) * (d - i - j))) *ℤ pos (choose i a) *ℤ pos (choose j b) *ℤ pow U0 (i - a) *ℤ pow V0 (j - b) *ℤ pow (pos H) (a + b)
 
 -- the even rule at (a,b): mode 0, a and b both even
 abbrev pub even-pair : Mode → ℕ → ℕ → Bool
