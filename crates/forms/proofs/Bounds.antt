@@ -1,4 +1,4 @@
--- What a coefficient of the local form gives to the bounds and to the bend, and the opposite form, which turns lower bounds into upper ones.
+-- What a coefficient of the local form gives to the bounds and to the bend, and the opposite polynomial, which turns lower bounds into upper ones.
 use mathlib.Core.Path.{_≡_, refl}
 use mathlib.Core.List.{List}
 use Prim.Native.Nat.{ℕ, _≤_, _<_}
@@ -23,7 +23,7 @@ use Rattle.forms.proofs.Vectors.{even-total}
 -- ---- the lower bound, by the three cases of its definition
 rule-even : (mode : Mode) (a : List ℕ) → T (even-rule mode a) → T (all-even a)
 rule-even affine a t = t
-rule-even centred a t = absurd t
+rule-even centred a t = search
 
 pub low-cases : (P : ℤ → Type 0) (mode : Mode) (a : List ℕ) (g : ℤ) →
     (total a ≡ 0 → P g) → (T (all-even a) → P (minℤ (pos 0) g)) → P (negℤ (pos (natAbs g))) → P (low mode a g)
@@ -65,7 +65,7 @@ pub bent-le : (a : List ℕ) (g : ℤ) → bent a g ≤ natAbs g
 unfolding bent
 bent-le a g = choice (λ n. n ≤ natAbs g) (bends a) (natAbs g) 0 (λ t. Nat.le-refl (natAbs g)) (λ t. omega arith)
 
--- ---- the opposite form
+-- ---- the opposite polynomial
 abbrev pub opposite : Polynomial → Polynomial
 opposite F = record { variables = F .variables; degree = F .degree; scale = F .scale; coefficient = λ e. negℤ (F .coefficient e) }
 

@@ -1,4 +1,4 @@
--- Only the coordinates at the form's own variables count.
+-- Only the coordinates at the polynomial's own variables count.
 use mathlib.Core.Path.{_≡_, _∙_, ap}
 use mathlib.Core.List.{List}
 use Prim.Native.Nat.{ℕ, _-_}

@@ -2,10 +2,10 @@
 use mathlib.Core.Path.{_≡_, refl}
 use mathlib.Core.Bool.{_&&_, cond}
 use mathlib.Core.List.{[], _∷_, map, flatMap}
-use Prim.Native.Nat.{ℕ, _+_, _*_, _^_, _≤_}
+use Prim.Native.Nat.{ℕ, _^_}
 use native.Mathlib.Omega.{arith}
 use lib.Dec.{eqb}
-use lib.IntN.{ℤ, pos, negsuc, _+ℤ_, _-ℤ_, _*ℤ_, natAbs, pow, one}
+use lib.IntN.{ℤ, pos, negsuc, _+ℤ_, pow, one}
 use Rattle.algebra.specs.Sum.{sum, sumℕ, run, span, _⋯_}
 use Rattle.algebra.specs.Binomial.{choose}
 use Rattle.algebra.specs.MinMax.{minℤ, maxℤ}
@@ -53,19 +53,22 @@ unfolding corner-at P9 monomial value scaled powers total vectors run span _⋯_
 corners-P9 = refl
 
 -- its corner (2,2) lies in it, and so does (5,6) / 3; (3,2) and (7,6) / 3 do not
-pub in-P9 : InBox P9 centre 1 (pair (pos 2) (pos 2)) 1 × InBox P9 centre 1 (pair (pos 5) (pos 6)) 3 × (InBox P9 centre 1 (pair (pos 3) (pos 2)) 1 → ⊥) × (InBox P9 centre 1 (pair (pos 7) (pos 6)) 3 → ⊥)
+pub inside-P9 : InBox P9 centre 1 (pair (pos 2) (pos 2)) 1 × InBox P9 centre 1 (pair (pos 5) (pos 6)) 3
 unfolding P9
-in-P9 = (
-  both (λ v. natAbs (pair (pos 2) (pos 2) v -ℤ pos 1 *ℤ centre v) ≤ 1 * 1) (omega arith) (omega arith),
-  both (λ v. natAbs (pair (pos 5) (pos 6) v -ℤ pos 3 *ℤ centre v) ≤ 3 * 1) (omega arith) (omega arith),
-  λ b. let n = b 0 (omega arith) in omega arith,
-  λ b. let n = b 0 (omega arith) in omega arith,
-)
+inside-P9 = (both _ (omega arith) (omega arith), both _ (omega arith) (omega arith))
 
--- with the limit 1 for both variables the square is within the limits, and one of twice its side is not
-pub limited-P9 : Limited P9 centre 1 (λ v. 1) × (Limited P9 centre 2 (λ v. 1) → ⊥)
+pub outside-P9 : (InBox P9 centre 1 (pair (pos 3) (pos 2)) 1 → ⊥) × (InBox P9 centre 1 (pair (pos 7) (pos 6)) 3 → ⊥)
 unfolding P9
-limited-P9 = (both (λ v. natAbs (centre v) + 1 ≤ 2 * 1) (omega arith) (omega arith), λ b. let n = b 0 (omega arith) in omega arith)
+outside-P9 = (λ b. let n = b 0 (omega arith) in omega arith, λ b. let n = b 0 (omega arith) in omega arith)
+
+-- with the limit 1 for both variables the square is within the limits, and one of twice its side is beyond them
+pub within-P9 : Limited P9 centre 1 (λ v. 1)
+unfolding P9
+within-P9 = both _ (omega arith) (omega arith)
+
+pub beyond-P9 : Limited P9 centre 2 (λ v. 1) → ⊥
+unfolding P9
+beyond-P9 = λ b. let n = b 0 (omega arith) in omega arith
 
 -- ---- P1 and P3: 8x² + 1 on the square from (-1,-1) of side 2, with k 1: bounds 16 and 144 in mode 0, -112 and 144 in mode 1. P2: on its cell (1,0) at level 1, -16 and 144, and -48 and 144
 pub P1 : Polynomial

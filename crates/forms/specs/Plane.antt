@@ -1,4 +1,4 @@
--- The plane: forms, points and limits with two variables.
+-- The plane: polynomials, points and limits with two variables.
 use mathlib.Core.Bool.{Bool, false, _&&_}
 use mathlib.Core.List.{List, [], _∷_}
 use Prim.Native.Nat.{ℕ, zero, suc, _+_, _*_, _-_, _^_, _%_}
