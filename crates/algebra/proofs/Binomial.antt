@@ -8,7 +8,7 @@ use native.Mathlib.Omega.{arith}
 use lib.IntN.{ℤ, pos, _+ℤ_, _*ℤ_, natAbs, pow, zero-*ℤ, *ℤ-comm, +ℤ-idr}
 use Rattle.algebra.specs.Sum.{sum, sumℕ, run, _⋯_}
 use Rattle.algebra.specs.Binomial.{choose, entry}
-use Rattle.algebra.proofs.Integer.{≡-by, *ℤ-idl, +ℤ-*ℤ, *ℤ-+ℤ, *ℤ-assoc, *ℤ-left-comm}
+use Rattle.algebra.proofs.Integer.{≡-by, *ℤ-idl, *ℤ-idr, +ℤ-*ℤ, *ℤ-+ℤ, *ℤ-assoc, *ℤ-left-comm}
 use Rattle.algebra.proofs.Power.{pow-zero, pow-suc, pos-pow}
 use Rattle.algebra.proofs.Absolute.{natAbs-*ℤ, natAbs-pow}
 use Rattle.algebra.proofs.Ring.{ring, _⊕_, _⊖_, _⊗_, _≐_}
@@ -100,33 +100,36 @@ binomial-term-size a b n k = elim (decLt n k) [
   | no l ↦ rw (binomialℕ a b n) (sumℕ-member (λ k. choose n k * a ^ (n - k) * b ^ k) (member-⋯ 0 n k (omega arith) (omega arith)))
 ]
 
--- ---- the tables of C(n,k) u^(n-k) H^k
-module _ (u : ℤ) (H : ℕ) where
-  entry-shift : (n k : ℕ) → entry u H n k ≡ shift u n k *ℤ pow (pos H) k
+-- ---- the tables of C(n,k) u^(n-k) h^k
+module _ (u h : ℤ) where
+  entry-shift : (n k : ℕ) → entry u h n k ≡ shift u n k *ℤ pow h k
   unfolding entry shift
   entry-shift n k = refl
 
-  pub entry-over : (n k : ℕ) → n < k → entry u H n k ≡ pos 0
-  entry-over n k h = rw (entry-shift, shift-over u n k h) (zero-*ℤ (pow (pos H) k))
+  pub entry-over : (n k : ℕ) → n < k → entry u h n k ≡ pos 0
+  entry-over n k l = rw (entry-shift, shift-over u n k l) (zero-*ℤ (pow h k))
+
+  pub entry-zero : (n : ℕ) → entry u h n 0 ≡ pow u n
+  entry-zero n = simp (entry-shift, shift-zero, pow-zero, *ℤ-idr)
 
   -- row by row, by Pascal's rule
-  pub entry-first : entry u H 0 0 ≡ pos 1
+  pub entry-first : entry u h 0 0 ≡ pos 1
   entry-first = simp (entry-shift, shift-zero, pow-zero)
 
-  pub entry-suc-zero : (n : ℕ) → entry u H (suc n) 0 ≡ u *ℤ entry u H n 0
+  pub entry-suc-zero : (n : ℕ) → entry u h (suc n) 0 ≡ u *ℤ entry u h n 0
   entry-suc-zero n = simp (entry-shift, shift-suc-zero, *ℤ-assoc)
 
-  pub entry-suc : (n k : ℕ) → entry u H (suc n) (suc k) ≡ pos H *ℤ entry u H n k +ℤ u *ℤ entry u H n (suc k)
-  entry-suc n k = rw (entry-shift (suc n) (suc k), entry-shift n k, entry-shift n (suc k), shift-suc u n k, pow-suc (pos H) k)
-      (ring (u ∷ pos H ∷ shift u n k ∷ shift u n (suc k) ∷ pow (pos H) k ∷ []) (λ u h s t p. (s ⊕ u ⊗ t) ⊗ (p ⊗ h) ≐ h ⊗ (s ⊗ p) ⊕ u ⊗ (t ⊗ (p ⊗ h))) tt)
+  pub entry-suc : (n k : ℕ) → entry u h (suc n) (suc k) ≡ h *ℤ entry u h n k +ℤ u *ℤ entry u h n (suc k)
+  entry-suc n k = rw (entry-shift (suc n) (suc k), entry-shift n k, entry-shift n (suc k), shift-suc u n k, pow-suc h k)
+      (ring (u ∷ h ∷ shift u n k ∷ shift u n (suc k) ∷ pow h k ∷ []) (λ u h s t p. (s ⊕ u ⊗ t) ⊗ (p ⊗ h) ≐ h ⊗ (s ⊗ p) ⊕ u ⊗ (t ⊗ (p ⊗ h))) tt)
 
-  -- each entry is at most (|u| + H)^n
-  pub entry-size : (n k : ℕ) → natAbs (entry u H n k) ≤ (natAbs u + H) ^ n
+  -- each entry is at most (|u| + |h|)^n
+  pub entry-size : (n k : ℕ) → natAbs (entry u h n k) ≤ (natAbs u + natAbs h) ^ n
   unfolding entry
-  entry-size n k = simp (natAbs-*ℤ, natAbs-pow) (binomial-term-size (natAbs u) H n k)
+  entry-size n k = simp (natAbs-*ℤ, natAbs-pow) (binomial-term-size (natAbs u) (natAbs h) n k)
 
   -- and so are the two products of Pascal's rule, one row on
-  pub entry-step-size : (n k : ℕ) → (natAbs (pos H *ℤ entry u H n k) ≤ (natAbs u + H) ^ suc n) × (natAbs (u *ℤ entry u H n k) ≤ (natAbs u + H) ^ suc n)
+  pub entry-step-size : (n k : ℕ) → (natAbs (h *ℤ entry u h n k) ≤ (natAbs u + natAbs h) ^ suc n) × (natAbs (u *ℤ entry u h n k) ≤ (natAbs u + natAbs h) ^ suc n)
   entry-step-size n k =
-      let s = entry-size n k in let w = natAbs u + H in
-      rw (natAbs-*ℤ (pos H), natAbs-*ℤ u, Nat.pow-suc w n, Nat.mul-comm (w ^ n) w) (Nat.mul-le-mul (Nat.le-add-left H (natAbs u)) s, Nat.mul-le-mul (Nat.le-add-right (natAbs u) H) s)
+      let s = entry-size n k in let w = natAbs u + natAbs h in
+      rw (natAbs-*ℤ h, natAbs-*ℤ u, Nat.pow-suc w n, Nat.mul-comm (w ^ n) w) (Nat.mul-le-mul (Nat.le-add-left (natAbs h) (natAbs u)) s, Nat.mul-le-mul (Nat.le-add-right (natAbs u) (natAbs h)) s)

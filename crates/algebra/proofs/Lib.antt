@@ -1,5 +1,6 @@
 -- The laws, from the bottom up. Everything above this crate cites them and proves none of them again.
 pub mod Choice
+pub mod Ceiling
 pub mod Integer
 pub mod Power
 pub mod Polynomial
@@ -11,5 +12,8 @@ pub mod MinMax
 pub mod Sum
 pub mod Run
 pub mod Triangle
+pub mod Places
 pub mod Binomial
+pub mod Horner
+pub mod Digits
 pub mod Samples

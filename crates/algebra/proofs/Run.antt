@@ -66,6 +66,10 @@ span-one n = let z : (n + 1) - n ≡ 1 = omega arith in rw z
 pub span-next : (a n : ℕ) → a ≤ n → span a (n + 1) ≡ span a n ++ (n ∷ [])
 span-next a n h = span-++ a n (n + 1) h (omega arith) ∙ ap (λ l. span a n ++ l) (span-one n)
 
+pub span-first : (a n : ℕ) → a < n → span a n ≡ a ∷ span (suc a) n
+unfolding span run
+span-first a n h = ap (run a) (let e : n - a ≡ suc (n - suc a) = omega arith in e)
+
 pub ⋯-run : (b : ℕ) → 0 ⋯ b ≡ run 0 (suc b)
 unfolding _⋯_ span
 ⋯-run b = rw Nat.sub-zero
@@ -86,6 +90,14 @@ pub sumℕ-span-next : (a n : ℕ) (g : ℕ → ℕ) → a ≤ n → sumℕ (spa
 sumℕ-span-next a n g h = ap natAbs (pos-sumℕ (span a (n + 1)) g ∙ sum-span-next a n (λ i. pos (g i)) h ∙ ap (λ x. x +ℤ pos (g n)) (sym (pos-sumℕ (span a n) g)))
 
 -- the first term apart
+pub sum-span-first : (a n : ℕ) (f : ℕ → ℤ) → a < n → sum (span a n) f ≡ f a +ℤ sum (span (suc a) n) f
+unfolding sum
+sum-span-first a n f h = ap (λ l. sum l f) (span-first a n h)
+
+pub sumℕ-span-first : (a n : ℕ) (g : ℕ → ℕ) → a < n → sumℕ (span a n) g ≡ g a + sumℕ (span (suc a) n) g
+unfolding sumℕ
+sumℕ-span-first a n g h = ap (λ l. sumℕ l g) (span-first a n h)
+
 run-map : (a n : ℕ) → run (suc a) n ≡ map suc (run a n)
 unfolding run
 run-map a zero = refl
@@ -105,6 +117,11 @@ sum-⋯-from a b f h = elim (decLe a (suc b)) [
   | yes l ↦ rw (span-++ 0 a (suc b) (omega arith) l, sum-++, sum-span-zero 0 a f (λ i l k. h i k)) (+ℤ-idl (sum (span a (suc b)) f))
   | no l ↦ sum-span-zero 0 (suc b) f (λ i p k. h i (omega arith)) ∙ sym (sum-span-none a (suc b) f (omega arith))
 ]
+
+pub sum-⋯-upto : (b c : ℕ) (f : ℕ → ℤ) → b ≤ c → ((i : ℕ) → b < i → i ≤ c → f i ≡ pos 0) → sum (0 ⋯ b) f ≡ sum (0 ⋯ c) f
+unfolding _⋯_
+sum-⋯-upto b c f h z = sym (ap (λ l. sum l f) (span-++ 0 (suc b) (suc c) (omega arith) (omega arith)) ∙ sum-++ (span 0 (suc b)) (span (suc b) (suc c)) f
+    ∙ ap (λ x. sum (span 0 (suc b)) f +ℤ x) (sum-span-zero (suc b) (suc c) f (λ i l k. z i l (omega arith))) ∙ +ℤ-idr (sum (span 0 (suc b)) f))
 
 -- ---- a part of a range has a part of the sum
 pub sumℕ-span-part : (a n : ℕ) {m : ℕ} (g : ℕ → ℕ) → n ≤ m → sumℕ (span a n) g ≤ sumℕ (span 0 m) g

@@ -1,13 +1,15 @@
 -- The definitions at numbers, and the tools at work: what the solver proves, and how an identity or an order is carried over from one in hand.
 use mathlib.Core.Path.{_≡_, refl, ap}
 use mathlib.Core.List.{[], _∷_, map}
-use Prim.Native.Nat.{ℕ, _+_, _*_}
+use Prim.Native.Nat.{ℕ, suc, _+_, _*_}
 use lib.IntN.{ℤ, pos, negsuc, one, _+ℤ_, _-ℤ_, _*ℤ_, negℤ, natAbs, pow}
 use lib.Signed.{_≤ℤ_}
-use Rattle.algebra.specs.Sum.{sum, run, span, _⋯_}
+use Rattle.algebra.specs.Sum.{sum, sumℕ, run, span, _⋯_}
 use Rattle.algebra.specs.Binomial.{choose, entry}
+use Rattle.algebra.specs.Horner.{shifted, load}
 use Rattle.algebra.specs.MinMax.{maxℤ, minℤ}
-use Rattle.algebra.specs.Triangle.{passed}
+use Rattle.algebra.specs.Triangle.{passed, row-start, place}
+use Rattle.algebra.specs.Digits.{digits}
 use Rattle.algebra.proofs.Integer.{≡-by}
 use Rattle.algebra.proofs.Order.{≤ℤ-by, +ℤ-mono, *ℤ-mono₂, signs, bounds}
 use Rattle.algebra.proofs.Sum.{sum-+, *ℤ-sum}
@@ -22,9 +24,20 @@ pub sums : sum (1 ⋯ 4) (λ i. pos (i * i)) ≡ pos 30
 unfolding sum run span _⋯_
 sums = refl
 
-pub binomials : (map (choose 4) (0 ⋯ 5) ≡ 1 ∷ 4 ∷ 6 ∷ 4 ∷ 1 ∷ 0 ∷ []) × (map (entry (negsuc 2) 2 3) (0 ⋯ 3) ≡ negsuc 26 ∷ pos 54 ∷ negsuc 35 ∷ pos 8 ∷ [])
+pub binomials : (map (choose 4) (0 ⋯ 5) ≡ 1 ∷ 4 ∷ 6 ∷ 4 ∷ 1 ∷ 0 ∷ []) × (map (entry (negsuc 2) (pos 2) 3) (0 ⋯ 3) ≡ negsuc 26 ∷ pos 54 ∷ negsuc 35 ∷ pos 8 ∷ [])
+    × (map (entry (pos 3) (negsuc 1) 2) (0 ⋯ 2) ≡ pos 9 ∷ negsuc 11 ∷ pos 4 ∷ [])
 unfolding choose entry pow one run span _⋯_
-binomials = (refl, refl)
+binomials = (refl, refl, refl)
+
+-- 1 + 2 x + 3 x² at x = 3 - 2 t is 34 - 40 t + 12 t²; on the way Horner's rule holds 2 + 3 x, which is 11 - 6 t
+pub horner : (map (shifted (λ n. pos (suc n)) (pos 3) (negsuc 1) 2 0) (0 ⋯ 3) ≡ pos 34 ∷ negsuc 39 ∷ pos 12 ∷ pos 0 ∷ []) × (map (shifted (λ n. pos (suc n)) (pos 3) (negsuc 1) 2 1) (0 ⋯ 2) ≡ pos 11 ∷ negsuc 5 ∷ pos 0 ∷ [])
+unfolding shifted choose entry sum pow one run span _⋯_
+horner = (refl, refl)
+
+-- 1 + 2 · 5 + 3 · 25 and 2 + 3 · 5, where the signs do not count; nothing above the top
+pub loads : map (load (λ n. negsuc n) 5 2) (0 ⋯ 3) ≡ 86 ∷ 17 ∷ 3 ∷ 0 ∷ []
+unfolding load sumℕ run span _⋯_
+loads = refl
 
 pub extremes : (maxℤ (pos 2) (negsuc 4) ≡ pos 2) × (maxℤ (negsuc 4) (pos 2) ≡ pos 2) × (minℤ (pos 2) (negsuc 4) ≡ negsuc 4) × (minℤ (negsuc 4) (pos 2) ≡ negsuc 4)
 unfolding maxℤ minℤ
@@ -34,6 +47,15 @@ extremes = (refl, refl, refl, refl)
 pub loops : passed 4 (λ i j. pos (10 * i + j)) 1 1 2 2 ≡ pos (11 + 12 + 13 + 21)
 unfolding passed sum run span _⋯_
 loops = refl
+
+-- with d 2 the rows start at 0, 3 and 5 and end at 6, (0,2) stands at 2 and (1,1) at 4; with d 8 there are 45 places
+pub places : (map (row-start 2) (0 ⋯ 3) ≡ 0 ∷ 3 ∷ 5 ∷ 6 ∷ []) × (place 2 0 2 ≡ 2) × (place 2 1 1 ≡ 4) × (row-start 8 9 ≡ 45)
+unfolding row-start sumℕ run span _⋯_
+places = (refl, refl, refl, refl)
+
+pub lengths : map digits (0 ∷ 1 ∷ 2 ∷ 3 ∷ 4 ∷ 255 ∷ 256 ∷ 18446744073709551615 ∷ []) ≡ 0 ∷ 1 ∷ 2 ∷ 2 ∷ 3 ∷ 8 ∷ 9 ∷ 64 ∷ []
+unfolding digits sumℕ run span
+lengths = refl
 
 -- ---- the solver: a factorisation in three variables
 cubes : (a b c : ℤ) → pow a 3 +ℤ pow b 3 +ℤ pow c 3 -ℤ pos 3 *ℤ a *ℤ b *ℤ c ≡ (a +ℤ b +ℤ c) *ℤ (pow a 2 +ℤ pow b 2 +ℤ pow c 2 -ℤ a *ℤ b -ℤ b *ℤ c -ℤ c *ℤ a)

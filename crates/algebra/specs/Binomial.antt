@@ -9,6 +9,6 @@ choose zero (suc k) = 0
 choose (suc n) zero = 1
 choose (suc n) (suc k) = choose n k + choose n (suc k)
 
--- document 000's tables: C(n,k) u^(n-k) H^k, the coefficient of t^k in (u + H t)^n
-unfoldable pub entry : ℤ → ℕ → ℕ → ℕ → ℤ
-entry u H n k = pos (choose n k) *ℤ pow u (n - k) *ℤ pow (pos H) k
+-- document 000's tables: C(n,k) u^(n-k) h^k, the coefficient of t^k in (u + h t)^n
+unfoldable pub entry : ℤ → ℤ → ℕ → ℕ → ℤ
+entry u h n k = pos (choose n k) *ℤ pow u (n - k) *ℤ pow h k

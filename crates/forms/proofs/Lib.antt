@@ -15,4 +15,5 @@ pub mod Depth
 pub mod Coordinates
 pub mod Plane
 pub mod Loops
+pub mod Turns
 pub mod Samples

@@ -29,7 +29,7 @@ module _ (d : ℕ) (f : ℕ → ℕ → ℤ) (g : List ℕ → ℕ) {n : ℕ} (l
 
 module _ (d S : ℕ) (A : ℕ → ℕ → ℤ) (R : ℕ → ℕ) where
   -- |A(i,j)| S^(d-i-j) (S Rx)^i (S Ry)^j, of which the weight is the sum
-  majorant-plane : (i j : ℕ) → majorant (plane d S A) R (i ∷ j ∷ []) ≡ natAbs (A i j *ℤ pow (pos S) (d - i - j)) * ((S * R 0) ^ i * (S * R 1) ^ j)
+  pub majorant-plane : (i j : ℕ) → majorant (plane d S A) R (i ∷ j ∷ []) ≡ natAbs (A i j *ℤ pow (pos S) (d - i - j)) * ((S * R 0) ^ i * (S * R 1) ^ j)
   unfolding majorant scaled total powersℕ
   majorant-plane i j = rw (Nat.add-zero, Nat.sub-add-eq, Nat.mul-one)
 

@@ -83,7 +83,7 @@ module _ (d k : ℕ) (A : ℕ → ℕ → ℤ) where
 
   -- by document 000's tables, one variable after the other
   pub local-tables : (U0 V0 : ℤ) (H a b : ℕ) → local (plane d (2 ^ (k + 1)) A) (pair U0 V0) H (a ∷ b ∷ [])
-      ≡ sum (a ⋯ d) (λ i. sum (b ⋯ (d - i)) (λ j. A i j *ℤ pos (2 ^ ((k + 1) * (d - i - j))) *ℤ entry V0 H j b) *ℤ entry U0 H i a)
+      ≡ sum (a ⋯ d) (λ i. sum (b ⋯ (d - i)) (λ j. A i j *ℤ pos (2 ^ ((k + 1) * (d - i - j))) *ℤ entry V0 (pos H) j b) *ℤ entry U0 (pos H) i a)
   unfolding entry
   local-tables U0 V0 H a b = local-plane U0 V0 H a b ∙ sum-cong (a ⋯ d) (λ i m. rw sum-*ℤ (sum-cong (b ⋯ (d - i)) (λ j l. rw (pow-+ (pos H) a b)
       (ring (A i j ∷ pos (2 ^ ((k + 1) * (d - i - j))) ∷ pos (choose i a) ∷ pos (choose j b) ∷ pow U0 (i - a) ∷ pow V0 (j - b) ∷ pow (pos H) a ∷ pow (pos H) b ∷ [])

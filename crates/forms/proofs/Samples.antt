@@ -7,7 +7,7 @@ use native.Mathlib.Omega.{arith}
 use lib.Dec.{eqb}
 use lib.IntN.{ℤ, pos, negsuc, _+ℤ_, pow, one}
 use Rattle.algebra.specs.Sum.{sum, sumℕ, run, span, _⋯_}
-use Rattle.algebra.specs.Binomial.{choose}
+use Rattle.algebra.specs.Binomial.{choose, entry}
 use Rattle.algebra.specs.MinMax.{minℤ, maxℤ}
 use Rattle.forms.specs.Vectors.{total, vectors, chooses, _∸_, all-even}
 use Rattle.forms.specs.Points.{Point, powers, powersℕ}
@@ -17,7 +17,7 @@ use Rattle.forms.specs.LocalForm.{local}
 use Rattle.forms.specs.Bounds.{affine, centred, low, high, lower, upper, bent, bend}
 use Rattle.forms.specs.Weight.{weight, Limited}
 use Rattle.forms.specs.Straight.{against, unit, zero-denominator, zero-point}
-use Rattle.forms.specs.Plane.{pair, plane}
+use Rattle.forms.specs.Plane.{pair, plane, turned}
 use Rattle.forms.proofs.Plane.{both}
 
 -- c x^i y^j
@@ -101,3 +101,11 @@ bounds-P4 = (refl, refl)
 pub touch-P4 : (zero-denominator P4 affine lower-right 1 ≡ 4) × (map (zero-point P4 affine lower-right 1) (0 ∷ 1 ∷ []) ≡ pos 8 ∷ pos 8 ∷ [])
 unfolding zero-denominator zero-point P4 against unit monomial lower low upper high all-even minℤ maxℤ local scaled powers chooses choose _∸_ total vectors run span _⋯_ flatMap sum pow one
 touch-P4 = (refl, refl)
+
+-- ---- x y² at y = 2 + 3 s is x (4 + 12 s + 9 s²), and at x = -1 + 3 t too it has 27 at t s² and -12 at s
+pub turns : (map (λ b. turned 3 (monomial (pos 1) 1 2) (pos 2) (pos 3) b 1) (0 ⋯ 3) ≡ pos 4 ∷ pos 12 ∷ pos 9 ∷ pos 0 ∷ [])
+    × (map (turned 3 (monomial (pos 1) 1 2) (pos 2) (pos 3) 0) (0 ⋯ 2) ≡ pos 0 ∷ pos 4 ∷ pos 0 ∷ [])
+    × (turned 3 (turned 3 (monomial (pos 1) 1 2) (pos 2) (pos 3)) (negsuc 0) (pos 3) 1 2 ≡ pos 27)
+    × (turned 3 (turned 3 (monomial (pos 1) 1 2) (pos 2) (pos 3)) (negsuc 0) (pos 3) 0 1 ≡ negsuc 11)
+unfolding turned monomial choose entry run span _⋯_ sum pow one
+turns = (refl, refl, refl, refl)

@@ -4,7 +4,8 @@ use mathlib.Core.List.{List, [], _∷_}
 use Prim.Native.Nat.{ℕ, zero, suc, _+_, _*_, _-_, _^_, _%_}
 use lib.Dec.{eqb}
 use lib.IntN.{ℤ, pos, _+ℤ_, _-ℤ_, _*ℤ_, pow}
-use Rattle.algebra.specs.Binomial.{choose}
+use Rattle.algebra.specs.Sum.{sum, _⋯_}
+use Rattle.algebra.specs.Binomial.{choose, entry}
 use Rattle.forms.specs.Polynomial.{Polynomial}
 use Rattle.forms.specs.Bounds.{Mode, affine, centred}
 
@@ -25,6 +26,10 @@ plane d S A = record { variables = 2; degree = d; scale = S; coefficient = at-pa
 -- the page's term of G(a,b) from A(i,j), with the scale 2^(k+1)
 abbrev pub page-term : ℕ → ℕ → (ℕ → ℕ → ℤ) → ℤ → ℤ → ℕ → ℕ → ℕ → ℕ → ℕ → ℤ
 page-term d k A U0 V0 H a b i j = A i j *ℤ pos (2 ^ ((k + 1) * (d - i - j))) *ℤ pos (choose i a) *ℤ pos (choose j b) *ℤ pow U0 (i - a) *ℤ pow V0 (j - b) *ℤ pow (pos H) (a + b)
+
+-- the second variable moved about u with the half-side h, and the two variables exchanged
+unfoldable pub turned : ℕ → (ℕ → ℕ → ℤ) → ℤ → ℤ → ℕ → ℕ → ℤ
+turned d f u h b i = sum (0 ⋯ (d - i)) (λ j. f i j *ℤ entry u h j b)
 
 -- the even rule at (a,b): mode 0, a and b both even
 abbrev pub even-pair : Mode → ℕ → ℕ → Bool

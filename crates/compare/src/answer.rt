@@ -1,0 +1,53 @@
+// An answer: five words. The first is 0 where the call answered values, 1 where it refused, and 2 where there is no such call. After a 1
+// stands the refusal's number; after a 0 stand the values: weight and spare places; or F; or the verdict (1 above, 2 below, 3 open),
+// the lower bound, the upper bound and the bend. F and the bounds are signed codes. Words not used are 0.
+use crate::coding::code;
+use crate::coding::put;
+
+fn refused(number: u32) -> [u64; 5] {
+    [1, number as u64, 0, 0, 0]
+}
+
+pub fn of_check(checked: sheet::Checked) -> [u64; 5] {
+    match checked {
+        sheet::Checked::Accepted { weight, spare } => [0, weight, spare as u64, 0, 0],
+        sheet::Checked::Refused(number) => refused(number),
+    }
+}
+
+pub fn of_value(valued: sheet::Valued) -> [u64; 5] {
+    match valued {
+        sheet::Valued::At(f) => [0, code(f), 0, 0, 0],
+        sheet::Valued::Refused(number) => refused(number),
+    }
+}
+
+fn cell(verdict: u64, lower: i64, upper: i64, bend: u64) -> [u64; 5] {
+    [0, verdict, code(lower), code(upper), bend]
+}
+
+fn of_cell(verdict: local::Verdict, bend: u64) -> [u64; 5] {
+    match verdict {
+        local::Verdict::Above { lower, upper } => cell(1, lower, upper, bend),
+        local::Verdict::Below { lower, upper } => cell(2, lower, upper, bend),
+        local::Verdict::Open { lower, upper } => cell(3, lower, upper, bend),
+    }
+}
+
+pub fn of_bounds(bounded: sheet::Bounded) -> [u64; 5] {
+    match bounded {
+        sheet::Bounded::Cell { verdict, bend } => of_cell(verdict, bend),
+        sheet::Bounded::Refused(number) => refused(number),
+    }
+}
+
+// The answer in bytes, eight for each word, the lowest first.
+pub fn bytes(words: [u64; 5]) -> [u8; 40] {
+    let mut out = [0u8; 40];
+    put(&mut out, 0, words[0]);
+    put(&mut out, 8, words[1]);
+    put(&mut out, 16, words[2]);
+    put(&mut out, 24, words[3]);
+    put(&mut out, 32, words[4]);
+    out
+}

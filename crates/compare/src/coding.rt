@@ -1,0 +1,67 @@
+// Whole numbers in bytes and words. A negative number is coded by its top bit and the number of steps that it lies below -1, so that
+// every number of its type has one code and every code is a number.
+ghost use Prim.Native.Nat.{_<_, _≤_};
+
+// A byte's number.
+fn wide(byte: u8) -> u32
+    ensures { λ r. ⌜ r < 256 ⌝ }
+{
+    byte as u32
+}
+
+// The word at place i of a case.
+pub fn word(case: &[u8; 320], i: usize) -> u32
+    requires { ⌜ i < 80 ⌝ }
+{
+    let at = 4 * i;
+    wide(case[at])
+        + 256 * wide(case[at + 1])
+        + 65536 * wide(case[at + 2])
+        + 16777216 * wide(case[at + 3])
+}
+
+// The number in two words, the lower one at place i.
+pub fn long_word(case: &[u8; 320], i: usize) -> u64
+    requires { ⌜ i < 79 ⌝ }
+{
+    let low = word(case, i) as u64;
+    let high = word(case, i + 1) as u64;
+    low + 4294967296 * high
+}
+
+pub fn signed(code: u32) -> i32 {
+    if code < 2147483648 {
+        code as i32
+    } else {
+        !((code - 2147483648) as i32)
+    }
+}
+
+pub fn long_signed(code: u64) -> i64 {
+    if code < 9223372036854775808 {
+        code as i64
+    } else {
+        !((code - 9223372036854775808) as i64)
+    }
+}
+
+pub fn code(number: i64) -> u64 {
+    if number < 0 {
+        9223372036854775808 + (!number as u64)
+    } else {
+        number as u64
+    }
+}
+
+// Puts a number at eight places of an answer, the lowest byte first.
+pub fn put(out: &mut [u8; 40], at: usize, number: u64)
+    requires { ⌜ at ≤ 32 ⌝ }
+{
+    let mut rest = number;
+    let mut i = 0;
+    while i < 8 {
+        out[at + i] = (rest % 256) as u8;
+        rest /= 256;
+        i += 1;
+    }
+}

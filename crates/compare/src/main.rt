@@ -1,0 +1,30 @@
+// Answers many cases of the calls check, value and bounds, so that tests/compare.py can hold the answers to those of its second program.
+//
+// Standard input is a row of cases of 320 bytes (`case` says what they mean), and standard output a row of answers of 40 bytes in the same
+// order (`answer`). The program ends where the input does.
+mod answer;
+mod call;
+mod case;
+mod coding;
+
+use libc::STDIN_FILENO;
+use libc::STDOUT_FILENO;
+
+// Reads one case and writes its answer; false where no whole case is left, or the answer can't be written.
+fn one_case() -> bool {
+    let mut case = [0u8; 320];
+    let got = io::read_full(STDIN_FILENO, &mut case);
+    if got < 320 {
+        return false;
+    }
+    let out = answer::bytes(call::answered(&case));
+    io::write_all(STDOUT_FILENO, &out)
+}
+
+// A proved loop has to end, and nothing says that the input does: the cases are counted down from a number that no run uses up.
+fn main() {
+    let mut left = u64::MAX;
+    while left > 0 && one_case() {
+        left -= 1;
+    }
+}

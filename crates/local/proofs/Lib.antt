@@ -1,0 +1,6 @@
+pub mod Steps
+pub mod Columns
+pub mod Moves
+pub mod Parts
+pub mod Spreads
+pub mod Ranges

@@ -1,0 +1,9 @@
+pub mod Rows
+pub mod Weights
+pub mod Shifts
+pub mod Scaling
+pub mod Centres
+pub mod Cells
+pub mod Page
+pub mod Demand3
+pub mod Forms

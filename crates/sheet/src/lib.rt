@@ -1,0 +1,91 @@
+// The calls that walk nothing: check a sheet, value F at a point, bounds and bend of a cell.
+use local::Form;
+use local::Verdict;
+
+mod cell;
+mod refusals;
+mod scale;
+
+ghost use mathlib.Core.Path.{_≡_};
+ghost use Rattle.sheet.specs.Answers.{checked, valued, bounded};
+ghost use Rattle.sheet.specs.Steps.{sheet-of};
+
+// Weight and spare places, or a refusal.
+pub enum Checked {
+    Accepted { weight: u64, spare: u32 },
+    Refused(u32),
+}
+
+// F at the point, or a refusal.
+pub enum Valued {
+    At(i64),
+    Refused(u32),
+}
+
+// The verdict on the cell, with both bounds, and the bend; or a refusal.
+pub enum Bounded {
+    Cell { verdict: Verdict, bend: u64 },
+    Refused(u32),
+}
+
+// Check a sheet.
+pub fn check(d: u32, coefficients: &[i32], x: i32, y: i32, s: u32, k: u32) -> Checked
+    ensures { λ r. ⌜ r ≡ checked (sheet-of d (now (coefficients .entry)) x y s k) ⌝ }
+{
+    let refusal = refusals::range_refusal(d, coefficients, x, y, s, k);
+    if refusal != 0 {
+        return Checked::Refused(refusal);
+    }
+    let weight = refusals::sheet_weight(d, coefficients, x, y, s, k);
+    if weight == numbers::CEILING {
+        return Checked::Refused(6);
+    }
+    let spare = weight::spare_places(weight);
+    Checked::Accepted { weight, spare }
+}
+
+// Value F at a whole-number point (u, v) of the closed square.
+pub fn value(d: u32, coefficients: &[i32], x: i32, y: i32, s: u32, k: u32, u: i64, v: i64) -> Valued
+    ensures { λ r. ⌜ r ≡ valued (sheet-of d (now (coefficients .entry)) x y s k) u v ⌝ }
+{
+    let refusal = refusals::point_refusal(d, coefficients, x, y, s, k, u, v);
+    if refusal != 0 {
+        return Valued::Refused(refusal);
+    }
+    let form = scale::scaled_form(d, coefficients, x, y, s, k);
+    let there = local::local_form(form, u, v, 0);
+    let z = local::centre_of(there);
+    Valued::At(z)
+}
+
+// Bounds and bend of the cell at level j, column p, row q.
+pub fn bounds(
+    d: u32,
+    coefficients: &[i32],
+    x: i32,
+    y: i32,
+    s: u32,
+    k: u32,
+    mode: u32,
+    j: u32,
+    p: u32,
+    q: u32,
+) -> Bounded
+    ensures { λ r. ⌜ r ≡ bounded (sheet-of d (now (coefficients .entry)) x y s k) mode j p q ⌝ }
+{
+    let refusal = refusals::cell_refusal(d, coefficients, x, y, s, k, mode, j, p, q);
+    if refusal != 0 {
+        return Bounded::Refused(refusal);
+    }
+    let form = scale::scaled_form(d, coefficients, x, y, s, k);
+    let h = cell::half_side(s, k, j);
+    let u = cell::centre(x, k, p, h);
+    let v = cell::centre(y, k, q, h);
+    let there = local::local_form(form, u, v, h);
+    let range = local::local_range(there, mode);
+    let verdict = range.verdict;
+    Bounded::Cell {
+        verdict,
+        bend: range.bend,
+    }
+}

@@ -1,0 +1,21 @@
+-- The starred table holds: computed from the definitions.
+use mathlib.Core.List.{List}
+use lib.Dec.{T}
+use lib.IntN.{pow, one}
+use Rattle.algebra.specs.Sum.{sum, sumℕ, run, span, _⋯_}
+use Rattle.algebra.specs.Binomial.{choose}
+use Rattle.algebra.specs.MinMax.{minℤ, maxℤ}
+use Rattle.algebra.specs.Triangle.{row-start}
+use Rattle.algebra.specs.Digits.{digits}
+use Rattle.local.specs.Range.{judged}
+use Rattle.sheet.specs.Scaled.{F}
+use Rattle.sheet.specs.LocalForm.{G}
+use Rattle.sheet.specs.Bounds.{lower, upper, bend}
+use Rattle.sheet.specs.Walking.{colour, raster, visited, coloured}
+use Rattle.sheet.specs.Weight.{weight}
+use Rattle.sheet.specs.Refusals.{table, first}
+use Rattle.starred.specs.Starred.{holds, starred, all-hold}
+
+pub starred-hold : T (all-hold starred)
+unfolding pow one sum sumℕ run span _⋯_ choose minℤ maxℤ row-start digits judged F G lower upper bend colour raster visited coloured weight table first holds starred all-hold
+starred-hold = tt

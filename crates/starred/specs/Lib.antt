@@ -1,0 +1,2 @@
+-- The starred table, and that it holds.
+pub mod Starred

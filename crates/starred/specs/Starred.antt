@@ -1,0 +1,145 @@
+-- Checked sheets: those with a star, as one table of sheets and the figures that the page gives of them.
+use mathlib.Core.Bool.{Bool, true, _&&_}
+use mathlib.Core.List.{List, [], _∷_}
+use Prim.Native.Nat.{ℕ}
+use lib.Dec.{eqb}
+use lib.IntN.{ℤ, pos, negsuc}
+use lib.ListN.{replicate}
+use lib.Signed.{leZ}
+use Rattle.sheet.specs.Sheet.{Sheet, mode-of}
+use Rattle.sheet.specs.Scaled.{F}
+use Rattle.sheet.specs.Bounds.{lower, upper, bend, verdict}
+use Rattle.sheet.specs.Walking.{visited, coloured, raster}
+use Rattle.sheet.specs.Weight.{weight, spare}
+use Rattle.sheet.specs.Refusals.{refusal}
+use Rattle.sheet.specs.Answers.{to-check}
+
+-- ---- a figure of a sheet. The mode comes first; a cell is level, column, row
+pub data Figure : Type 0 where
+  bounds-are : ℕ → ℕ → ℕ → ℕ → ℤ → ℤ → Figure
+  bend-is : ℕ → ℕ → ℕ → ℕ → Figure
+  value-is : ℤ → ℤ → ℤ → Figure
+  weight-is : ℕ → Figure
+  spare-is : ℕ → Figure
+  check-refuses : ℕ → Figure
+  visited-are : ℕ → ℕ → Figure
+  coloured-are : ℕ → ℕ → Figure
+  every-byte-is : ℕ → ℕ → Figure
+
+abbrev pub eqZ : ℤ → ℤ → Bool
+eqZ a b = leZ a b && leZ b a
+
+abbrev pub every : List ℕ → ℕ → Bool
+every [] n = true
+every (x ∷ xs) n = eqb x n && every xs n
+
+unfoldable pub holds : Sheet → Figure → Bool
+holds S (bounds-are m j p q l u) = eqZ (lower S (mode-of m) j p q) l && eqZ (upper S (mode-of m) j p q) u
+holds S (bend-is j p q n) = eqb (bend S j p q) n
+holds S (value-is u v z) = eqZ (F S u v) z
+holds S (weight-is n) = eqb (weight S) n
+holds S (spare-is n) = eqb (spare S) n
+holds S (check-refuses n) = eqb (refusal (to-check S)) n
+holds S (visited-are m n) = eqb (visited (verdict S (mode-of m)) (S .k)) n
+holds S (coloured-are m n) = eqb (coloured (verdict S (mode-of m)) (S .k)) n
+holds S (every-byte-is m n) = every (raster (verdict S (mode-of m)) (S .k)) n
+
+-- ---- the sheets, by degree, coefficients, corner (Y = X), side and depth
+abbrev sheet : ℕ → List ℤ → ℤ → ℕ → ℕ → Sheet
+sheet d A X s k = record { d = d; coefficients = A; X = X; Y = X; s = s; k = k }
+
+-- 8x² + 1
+abbrev pub P1 : Sheet
+P1 = sheet 2 (pos 1 ∷ pos 0 ∷ pos 0 ∷ pos 0 ∷ pos 0 ∷ pos 8 ∷ []) (negsuc 0) 1 1
+
+-- x - y
+abbrev pub P4 : Sheet
+P4 = sheet 1 (pos 0 ∷ negsuc 0 ∷ pos 1 ∷ []) (pos 0) 0 1
+
+-- 0
+abbrev pub P6 : Sheet
+P6 = sheet 0 (pos 0 ∷ []) (pos 0) 0 0
+
+-- -5
+abbrev pub P7 : Sheet
+P7 = sheet 0 (negsuc 4 ∷ []) (pos 0) 0 7
+
+-- xy
+abbrev pub P8 : Sheet
+P8 = sheet 2 (pos 0 ∷ pos 0 ∷ pos 0 ∷ pos 0 ∷ pos 1 ∷ pos 0 ∷ []) (negsuc 0) 1 0
+
+-- x²
+abbrev pub P9 : Sheet
+P9 = sheet 2 (pos 0 ∷ pos 0 ∷ pos 0 ∷ pos 0 ∷ pos 0 ∷ pos 1 ∷ []) (pos 0) 0 0
+
+-- a constant, with d 8 and k 6
+abbrev pub P10 : ℕ → Sheet
+P10 n = sheet 8 (pos n ∷ replicate 44 (pos 0)) (pos 0) 0 6
+
+-- ---- the table
+pub record Star : Type 0 where
+  pub of : Sheet
+  pub figure : Figure
+
+infix 3 _has_
+abbrev _has_ : Sheet → Figure → Star
+S has f = record { of = S; figure = f }
+
+unfoldable pub starred : List Star
+starred =
+    -- P1
+    (P1 has bounds-are 0 0 0 0 (pos 16) (pos 144))
+    ∷ (P1 has visited-are 0 1)
+    ∷ (P1 has coloured-are 0 0)
+    ∷ (P1 has weight-is 144)
+    ∷ (P1 has spare-is 54)
+    -- P2
+    ∷ (P1 has bounds-are 0 1 1 0 (negsuc 15) (pos 144))
+    -- P3
+    ∷ (P1 has bounds-are 1 0 0 0 (negsuc 111) (pos 144))
+    ∷ (P1 has bounds-are 1 1 1 0 (negsuc 47) (pos 144))
+    ∷ (P1 has visited-are 1 5)
+    ∷ (P1 has coloured-are 1 4)
+    -- P4
+    ∷ (P4 has bounds-are 0 1 0 0 (negsuc 1) (pos 2))
+    ∷ (P4 has bounds-are 1 1 0 0 (negsuc 1) (pos 2))
+    ∷ (P4 has bounds-are 0 1 1 0 (pos 0) (pos 4))
+    ∷ (P4 has bounds-are 1 1 1 0 (pos 0) (pos 4))
+    ∷ (P4 has bounds-are 0 1 0 1 (negsuc 3) (pos 0))
+    ∷ (P4 has bounds-are 1 1 0 1 (negsuc 3) (pos 0))
+    ∷ (P4 has coloured-are 0 4)
+    ∷ (P4 has coloured-are 1 4)
+    ∷ (P4 has every-byte-is 0 1)
+    ∷ (P4 has every-byte-is 1 1)
+    -- P6
+    ∷ (P6 has bounds-are 0 0 0 0 (pos 0) (pos 0))
+    ∷ (P6 has bounds-are 1 0 0 0 (pos 0) (pos 0))
+    ∷ (P6 has coloured-are 0 1)
+    ∷ (P6 has coloured-are 1 1)
+    ∷ (P6 has weight-is 0)
+    ∷ (P6 has spare-is 62)
+    -- P7
+    ∷ (P7 has visited-are 0 1)
+    ∷ (P7 has visited-are 1 1)
+    ∷ (P7 has every-byte-is 0 3)
+    ∷ (P7 has every-byte-is 1 3)
+    -- P8
+    ∷ (P8 has bounds-are 0 0 0 0 (negsuc 3) (pos 4))
+    ∷ (P8 has bounds-are 1 0 0 0 (negsuc 3) (pos 4))
+    -- P9
+    ∷ (P9 has bounds-are 0 0 0 0 (negsuc 0) (pos 4))
+    ∷ (P9 has bounds-are 1 0 0 0 (negsuc 1) (pos 4))
+    ∷ (P9 has bend-is 0 0 0 1)
+    ∷ (P9 has value-is (pos 0) (pos 0) (pos 0))
+    ∷ (P9 has value-is (pos 2) (pos 0) (pos 4))
+    ∷ (P9 has value-is (pos 0) (pos 2) (pos 0))
+    ∷ (P9 has value-is (pos 2) (pos 2) (pos 4))
+    -- P10
+    ∷ (P10 63 has check-refuses 0)
+    ∷ (P10 64 has check-refuses 6)
+    ∷ []
+
+-- every figure of the table holds
+unfoldable pub all-hold : List Star → Bool
+all-hold [] = true
+all-hold (r ∷ rs) = holds (r .of) (r .figure) && all-hold rs

@@ -1,0 +1,78 @@
+-- `weight::sum_weight` meets its contract: the rows are added as the terms of a row are, each found where its row starts.
+use Prim.Native.Nat.{_+_, _-_, _<_}
+use native.Mathlib.Omega.{arith}
+use lib.ListN.{length}
+use Rattle.weight.proofs.Rows.{Rows, rows-start, rows-inside, rows-next, rows-end}
+use Rattle.weight.proofs.sum_weight.Statement.{statement}
+use Rattle.weight.proofs.sum_weight.Tie as tie
+use Rattle.weight.proofs.sum_weight.Reads as reads
+use Rattle.weight.proofs.sum_weight.Lts as lts
+use Rattle.numbers.proofs.plus.Reads as plus-reads
+use Rattle.numbers.proofs.times.Reads as times-reads
+use Rattle.weight.proofs.row_weight.Reads as row-weight-reads
+
+abbrev Inv-loop : tie.InvT-loop
+Inv-loop d coefficients r sum₀ scale₀ first₀ i₀ sum scale first i = Rows coefficients d r sum scale first i
+
+abbrev μ-loop : tie.MeasureT-loop
+μ-loop d coefficients r sum₀ scale₀ first₀ i₀ sum scale first i = d + 1 - i
+
+loop-holds : tie.Need-loop-holds Inv-loop μ-loop
+loop-holds c = rows-start
+
+-- the row ends within the table
+inside : (c : tie.In-loop Inv-loop μ-loop) → c .before .loop .first + (c .before .before .args .d - c .before .loop .i) < length (c .before .before .args .coefficients .now)
+inside c = rows-inside (omega arith) (c .before .before .pre .1) (c .before .loop .inv)
+
+row-weight-requires : tie.Need-row-weight-requires Inv-loop μ-loop
+row-weight-requires c κs = (inside c, omega arith)
+
+times-requires : tie.Need-times-requires Inv-loop μ-loop
+times-requires c κs = omega arith
+
+plus-requires : tie.Need-plus-requires Inv-loop μ-loop
+plus-requires c κs = omega arith
+
+times-requires-2 : tie.Need-times-requires-2 Inv-loop μ-loop
+times-requires-2 c κs = omega arith
+
+add-first : tie.Need-add-first Inv-loop μ-loop
+add-first c = omega arith
+
+sub-first : tie.Need-sub-first Inv-loop μ-loop
+sub-first c = omega arith
+
+add-first-2 : tie.Need-add-first-2 Inv-loop μ-loop
+add-first-2 c = let h = inside (c .before .before .before .before) in omega arith
+
+add-i : tie.Need-add-i Inv-loop μ-loop
+add-i c = omega arith
+
+loop-less : tie.Need-loop-less Inv-loop μ-loop
+loop-less c = omega arith
+
+loop-again : tie.Need-loop-again Inv-loop μ-loop
+loop-again c =
+    rows-next (omega arith) (omega arith) (c .before .before .before .row-weight .ensures) (c .before .before .times .ensures) (omega arith) (omega arith) (c .before .before .before .before .before .loop .inv)
+
+returns : tie.Need-returns Inv-loop μ-loop
+returns c = rows-end (omega arith) (c .before .loop .inv)
+
+pub sum-weight-spec : {M : Type 1} → statement M
+sum-weight-spec =
+    tie.close
+    (tie.spec
+    Inv-loop
+    μ-loop
+    loop-holds
+    row-weight-requires
+    times-requires
+    plus-requires
+    times-requires-2
+    add-first
+    sub-first
+    add-first-2
+    add-i
+    loop-less
+    loop-again
+    returns)

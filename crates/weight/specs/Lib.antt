@@ -1,0 +1,2 @@
+-- The weight of a sheet: what the contracts of this crate say.
+pub mod Series

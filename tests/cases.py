@@ -1,0 +1,189 @@
+"""Cases for the comparison: the page's figures, the limits of the page, and seeded random cases.
+
+A case is the name of a call and what the call is given, in the order of tests/second.py's functions. The random ones are biased so that
+sheets of every degree and depth are accepted, and every refusal is given, alone and where others would hold after it.
+"""
+import collections
+import random
+
+import second
+
+CALLS = ("check", "value", "bounds")
+# the refusals that each call can give
+REFUSALS = {"check": (1, 2, 3, 4, 6), "value": (1, 2, 3, 4, 6, 8), "bounds": (1, 2, 3, 4, 5, 6, 8)}
+MOST32, MOST31, MOST63 = 2 ** 32 - 1, 2 ** 31 - 1, 2 ** 63 - 1
+LEAST31, LEAST63 = -2 ** 31, -2 ** 63
+EDGE = 1_048_576
+# the most coefficients that a case can hand over
+COUNT = 64
+
+Sheet = collections.namedtuple("Sheet", "d coefficients X Y s k")
+# a sheet, and all that some call takes beside it
+Given = collections.namedtuple("Given", "sheet U V mode j p q")
+
+
+def arguments(call, g):
+    return tuple(g.sheet) + {"check": (), "value": (g.U, g.V), "bounds": (g.mode, g.j, g.p, g.q)}[call]
+
+
+# ---- random sheets that are accepted
+
+def places(rng, d):
+    """Some of the exponents of degree d, (0, 0) or others with it: the coefficients elsewhere are to be 0."""
+    true_degree = rng.choice((d, d, rng.randint(0, d)))
+    low = [(i, j) for i, j in second.exponents(d) if i + j <= true_degree]
+    return rng.choice((
+        low,
+        low,
+        rng.sample(low, rng.randint(1, len(low))),
+        rng.sample(low, min(3, len(low))),
+        [e for e in low if 0 in e],
+        [(i, j) for i, j in low if i % 2 == 0 and j % 2 == 0],
+    ))
+
+
+def square(rng, bits):
+    """A corner and a side: no coordinate has many more binary digits than asked."""
+    s = min(10, rng.choice((0, rng.randint(0, bits), bits)))
+    span = 2 ** rng.randint(0, bits)
+    ends = (-EDGE, EDGE) if bits == 20 else (-2 ** s, -(2 ** s // 2), 0)
+    X, Y = (rng.choice((rng.randint(-span, span), rng.randint(-span, span), rng.choice(ends))) for _ in "XY")
+    return X, Y, s
+
+
+def accepted(rng, d, k):
+    """A sheet of weight below 2^62."""
+    left = (2 ** 62 - 1) >> (k + 1) * d
+    wanted = places(rng, d)
+    # a coordinate of so many binary digits leaves room for each of the terms
+    fitting = max(0, min(20, (left.bit_length() - 6) // max(1, max(i + j for i, j in wanted))))
+    X, Y, s = square(rng, rng.choice((20, fitting, fitting, rng.randint(0, fitting), rng.randint(0, fitting))))
+    R, named, greedy = second.limit(X, Y, s), {}, rng.random() < 0.25
+    for taken, (i, j) in enumerate(rng.sample(wanted, len(wanted))):
+        share = left if greedy else left // (len(wanted) - taken)
+        most = min(2 ** 31, share // R ** (i + j))
+        size = min(most, rng.choice((9, 2 ** rng.randint(0, 31), most)))
+        size = rng.choice((size, rng.randint(0, size)))
+        named[i, j] = -size if size > MOST31 or rng.random() < 0.5 else size
+        left -= size * R ** (i + j)
+    return Sheet(d, second.terms(d, named), X, Y, s, k)
+
+
+def heavy(rng, weight):
+    """A sheet whose weight is 2^62, or the last below it that its scale allows."""
+    while True:
+        d, k = rng.randint(2, 8), rng.randint(0, 7)
+        X, Y, s = square(rng, rng.randint(0, 20))
+        R, named = second.limit(X, Y, s), {}
+        left = weight >> (k + 1) * d
+        for i, j in sorted(rng.sample(second.exponents(d), len(second.exponents(d))), key=lambda e: -sum(e)):
+            size = min(MOST31, left // R ** (i + j))
+            named[i, j] = rng.choice((-size, size))
+            left -= size * R ** (i + j)
+        if left == 0 and any(named.values()):
+            return Sheet(d, second.terms(d, named), X, Y, s, k)
+
+
+# ---- a point and a cell of a sheet
+
+def ends(sheet, corner):
+    """The least and the greatest coordinate of the closed square; for a sheet that has none, of one like it."""
+    unit, s = 2 ** (min(sheet.k, 7) + 1), min(sheet.s, 10)
+    return unit * corner, unit * (corner + 2 ** s)
+
+
+def along(rng, low, high):
+    return rng.choice((low, high, rng.randint(low, high), rng.randint(low, high)))
+
+
+def given(rng, sheet):
+    """A sheet with a mode, and with a cell and a point that are its own, often at an edge."""
+    j = rng.randint(0, min(sheet.k, 7))
+    p, q = (rng.choice((0, 2 ** j - 1, rng.randrange(2 ** j))) for _ in "pq")
+    U, V = (along(rng, *ends(sheet, corner)) for corner in (sheet.X, sheet.Y))
+    return Given(sheet, U, V, rng.randint(0, 1), j, p, q)
+
+
+# ---- what a refusal is given for
+
+def beyond(rng, edge):
+    """An unsigned number above an edge."""
+    return rng.choice((edge + 1, edge + 1, MOST32, rng.randint(edge + 1, MOST32)))
+
+
+def far(rng):
+    """A corner outside its range."""
+    return rng.choice((EDGE + 1, -EDGE - 1, MOST31, LEAST31, rng.randint(EDGE + 1, MOST31), rng.randint(LEAST31, -EDGE - 1)))
+
+
+def other_count(rng, n):
+    count = rng.choice([c for c in (0, n - 1, n + 1, 45, 50, COUNT, rng.randint(0, COUNT)) if c != n])
+    return [rng.choice((0, 1, LEAST31, rng.randint(-9, 9))) for _ in range(count)]
+
+
+def heavier(rng, sheet):
+    """Coefficients as large as they come, at some places."""
+    coefficients = list(sheet.coefficients)
+    for at in rng.sample(range(len(coefficients)), rng.randint(0, len(coefficients))):
+        coefficients[at] = rng.choice((LEAST31, MOST31, rng.randint(LEAST31, MOST31)))
+    return sheet._replace(coefficients=coefficients, k=rng.choice((sheet.k, 7)))
+
+
+def spoiled(rng, call, g, number):
+    """The same case with one thing changed, mostly so that the refusal is given where nothing before it holds."""
+    sheet = g.sheet
+    if number == 1:
+        return g._replace(sheet=sheet._replace(d=beyond(rng, 8)))
+    if number == 2:
+        return g._replace(sheet=sheet._replace(coefficients=other_count(rng, len(sheet.coefficients))))
+    if number == 3:
+        return g._replace(sheet=sheet._replace(k=beyond(rng, 7)))
+    if number == 4:
+        name = rng.choice("XYs")
+        return g._replace(sheet=sheet._replace(**{name: beyond(rng, 10) if name == "s" else far(rng)}))
+    if number == 5:
+        return g._replace(mode=beyond(rng, 1))
+    if number == 6:
+        return given(rng, heavy(rng, 2 ** 62)) if rng.random() < 0.3 else g._replace(sheet=heavier(rng, sheet))
+    name = rng.choice("UV" if call == "value" else "jpq")
+    if name in "UV":
+        low, high = ends(sheet, sheet.X if name == "U" else sheet.Y)
+        outside = (low - 1, high + 1, LEAST63, MOST63, rng.randint(LEAST63, low - 1), rng.randint(high + 1, MOST63))
+        return g._replace(**{name: rng.choice(outside)})
+    return g._replace(**{name: beyond(rng, min(sheet.k, MOST32 - 1) if name == "j" else 2 ** g.j - 1)})
+
+
+def random_case(rng, turn):
+    """The calls, degrees and depths take turns; most cases are of accepted sheets, the others are spoiled in one way or in several."""
+    turn, at = divmod(turn, len(CALLS))
+    call, d, k = CALLS[at], turn % 9, turn // 9 % 8
+    g = given(rng, heavy(rng, 2 ** 62 - 1) if rng.random() < 0.04 else accepted(rng, d, k))
+    fate = rng.random()
+    for number in rng.sample(REFUSALS[call], 1 if fate < 0.25 else rng.randint(2, 3) if fate < 0.35 else 0):
+        g = spoiled(rng, call, g, number)
+    return call, arguments(call, g)
+
+
+# ---- all of them
+
+def limits():
+    """Sheets at and beyond the page's limits, in every combination, with one coefficient that is not 0 or with none."""
+    for d in (0, 1, 8, 9, MOST32):
+        n = (d + 1) * (d + 2) // 2 if d <= 9 else 45
+        rows = [[0] * n] + [[A] + [0] * (n - 1) for A in (1, LEAST31)] + [[0] * (n - 1) + [A] for A in (-1, LEAST31)]
+        for coefficients in rows if d <= 8 else rows[:1]:
+            for X, Y in ((EDGE, -EDGE), (-EDGE, EDGE), (EDGE + 1, 0), (0, -EDGE - 1), (MOST31, 0), (0, LEAST31)):
+                for s in (0, 10, 11, MOST32):
+                    for k in (0, 7, 8, MOST32):
+                        yield Sheet(d, coefficients, X, Y, s, k)
+
+
+def all_cases(seed, count):
+    """The figures, the limits, and so many random cases."""
+    rng = random.Random(seed)
+    cases = [(call.__name__, wanted) for _, call, wanted, _ in second.FIGURES]
+    for turn, sheet in enumerate(limits()):
+        # five and three have no common factor, so each call meets each limit
+        call = CALLS[turn // 5 % len(CALLS)]
+        cases.append((call, arguments(call, given(rng, sheet))))
+    return cases + [random_case(rng, turn) for turn in range(count)]

@@ -1,0 +1,214 @@
+"""The second program: the calls check, value and bounds, worked out from the definition page alone.
+
+Plain exact whole numbers, in the page's order and by the page's formulas, with no thought for speed or for the size of
+a number. It shares nothing with the proved crates, so that where the two agree neither leans on the other.
+
+An answer begins with a number: 0 where the sheet is accepted, else the number of the refusal with zeros beside it.
+
+    python3 tests/second.py     holds the program to the figures that the page prints
+"""
+import sys
+from math import comb
+
+COORDINATE = 1_048_576
+LIMIT = 2 ** 62
+
+
+# ---- what a sheet holds
+
+def exponents(d):
+    """The pairs (i, j) with i + j at most d, in the order of the coefficients."""
+    return [(i, j) for i in range(d + 1) for j in range(d - i + 1)]
+
+
+def table(d, coefficients):
+    """A(i,j), under its exponents."""
+    return dict(zip(exponents(d), coefficients))
+
+
+# ---- scaled numbers
+
+def polynomial(d, coefficients, k, M, N, Q):
+    """Q^d times F(M/Q, N/Q), from the coefficients."""
+    return sum(A * 2 ** ((k + 1) * (d - i - j)) * M ** i * N ** j * Q ** (d - i - j)
+               for (i, j), A in table(d, coefficients).items())
+
+
+def cell(X, Y, s, k, j, p, q):
+    """The centre and the half-side of a cell: U0, V0, H."""
+    H = 2 ** (s + k - j)
+    return 2 ** (k + 1) * X + (2 * p + 1) * H, 2 ** (k + 1) * Y + (2 * q + 1) * H, H
+
+
+def local_form(d, coefficients, k, U0, V0, H):
+    """G(a,b), under its exponents: F(U0 + H e, V0 + H g) is the sum of G(a,b) e^a g^b."""
+    A = table(d, coefficients)
+    return {(a, b): sum(A[i, j] * 2 ** ((k + 1) * (d - i - j)) * comb(i, a) * comb(j, b)
+                        * U0 ** (i - a) * V0 ** (j - b) * H ** (a + b)
+                        for (i, j) in exponents(d) if i >= a and j >= b)
+            for (a, b) in exponents(d)}
+
+
+# ---- the two bounds of a cell
+
+def two_bounds(G, mode):
+    """The lower and the upper bound of a local form."""
+    lower = upper = G[0, 0]
+    for (a, b), g in G.items():
+        if (a, b) == (0, 0):
+            continue
+        if mode == 0 and a % 2 == 0 and b % 2 == 0:
+            lower += min(0, g)
+            upper += max(0, g)
+        else:
+            lower -= abs(g)
+            upper += abs(g)
+    return lower, upper
+
+
+def bend_of(G):
+    return sum(abs(g) for (a, b), g in G.items() if a + b >= 2)
+
+
+def verdict_of(lower, upper):
+    return "above" if lower > 0 else "below" if upper < 0 else "open"
+
+
+# ---- weight
+
+def limit(X, Y, s):
+    """The page's R."""
+    return max(abs(X), abs(X + 2 ** s), abs(Y), abs(Y + 2 ** s))
+
+
+def weight_of(d, coefficients, X, Y, s, k):
+    R = limit(X, Y, s)
+    return 2 ** ((k + 1) * d) * sum(abs(A) * R ** (i + j) for (i, j), A in table(d, coefficients).items())
+
+
+def spare_of(weight):
+    """62 minus the count of binary digits; 0 has none."""
+    return 62 - weight.bit_length()
+
+
+# ---- calls and refusals
+
+def outside(low, value, high):
+    return value < low or value > high
+
+
+def refusal(d, coefficients, X, Y, s, k, mode=None, at=None, point=None):
+    """The number of the first condition that holds, or 0. A call leaves out what it has no input for.
+
+    Each condition is looked at only where none before it holds: a degree or a depth may be any 32-bit number, and
+    the powers that later conditions speak of are then out of reach.
+    """
+    def cell_outside():
+        j, p, q = at
+        return j > k or p >= 2 ** j or q >= 2 ** j
+
+    def point_outside():
+        unit, (U, V) = 2 ** (k + 1), point
+        return outside(unit * X, U, unit * (X + 2 ** s)) or outside(unit * Y, V, unit * (Y + 2 ** s))
+
+    conditions = [
+        (1, lambda: d > 8),
+        (2, lambda: len(coefficients) != (d + 1) * (d + 2) // 2),
+        (3, lambda: k > 7),
+        (4, lambda: outside(-COORDINATE, X, COORDINATE) or outside(-COORDINATE, Y, COORDINATE) or s > 10),
+        (5, lambda: mode is not None and mode not in (0, 1)),
+        (6, lambda: weight_of(d, coefficients, X, Y, s, k) >= LIMIT),
+        (8, lambda: at is not None and cell_outside() or point is not None and point_outside()),
+    ]
+    return next((number for number, holds in conditions if holds()), 0)
+
+
+def check(d, coefficients, X, Y, s, k):
+    """(number, weight, spare)"""
+    number = refusal(d, coefficients, X, Y, s, k)
+    if number:
+        return number, 0, 0
+    weight = weight_of(d, coefficients, X, Y, s, k)
+    return 0, weight, spare_of(weight)
+
+
+def value(d, coefficients, X, Y, s, k, U, V):
+    """(number, F)"""
+    number = refusal(d, coefficients, X, Y, s, k, point=(U, V))
+    if number:
+        return number, 0
+    return 0, polynomial(d, coefficients, k, U, V, 1)
+
+
+def bounds(d, coefficients, X, Y, s, k, mode, j, p, q):
+    """(number, verdict, lower, upper, bend); a refusal has 0 in the verdict's place too."""
+    number = refusal(d, coefficients, X, Y, s, k, mode=mode, at=(j, p, q))
+    if number:
+        return number, 0, 0, 0, 0
+    G = local_form(d, coefficients, k, *cell(X, Y, s, k, j, p, q))
+    lower, upper = two_bounds(G, mode)
+    return 0, verdict_of(lower, upper), lower, upper, bend_of(G)
+
+
+# ---- the page's own figures
+
+def terms(d, named):
+    """The coefficients of a polynomial of degree d, those not named being 0."""
+    return [named.get(e, 0) for e in exponents(d)]
+
+
+def sheet(d, named, X, s, k):
+    """A sheet whose Y is its X."""
+    return d, terms(d, named), X, X, s, k
+
+
+P1 = sheet(2, {(2, 0): 8, (0, 0): 1}, -1, 1, 1)
+P4 = sheet(1, {(1, 0): 1, (0, 1): -1}, 0, 0, 1)
+P6 = sheet(0, {}, 0, 0, 0)
+P7 = sheet(0, {(0, 0): -5}, 0, 0, 7)
+P8 = sheet(2, {(1, 1): 1}, -1, 1, 0)
+P9 = sheet(2, {(2, 0): 1}, 0, 0, 0)
+P10 = sheet(8, {(0, 0): 63}, 0, 0, 6)
+P10_REFUSED = sheet(8, {(0, 0): 64}, 0, 0, 6)
+P11 = sheet(0, {(0, 0): 1}, 1_048_576, 0, 0)
+P11_REFUSED = sheet(0, {(0, 0): 1}, 1_048_577, 0, 0)
+P12 = sheet(8, {}, 0, 0, 7)
+
+# a call, what it is given, and the part of its answer that the page prints (None: not printed)
+FIGURES = [
+    ("P1", check, P1, (0, 144, 54)),
+    ("P1", bounds, P1 + (0, 0, 0, 0), (0, "above", 16, 144, None)),
+    ("P2", bounds, P1 + (0, 1, 1, 0), (0, "open", -16, 144, None)),
+    ("P3", bounds, P1 + (1, 0, 0, 0), (0, "open", -112, 144, None)),
+    ("P3", bounds, P1 + (1, 1, 1, 0), (0, "open", -48, 144, None)),
+    *(("P4", bounds, P4 + (mode, 1, p, q), (0, "open", lower, upper, None))
+      for mode in (0, 1) for p, q, lower, upper in ((0, 0, -2, 2), (1, 0, 0, 4), (0, 1, -4, 0))),
+    ("P6", check, P6, (0, 0, 62)),
+    *(("P6", bounds, P6 + (mode, 0, 0, 0), (0, "open", 0, 0, None)) for mode in (0, 1)),
+    *(("P7", bounds, P7 + (mode, 0, 0, 0), (0, "below", -5, -5, None)) for mode in (0, 1)),
+    *(("P8", bounds, P8 + (mode, 0, 0, 0), (0, "open", -4, 4, None)) for mode in (0, 1)),
+    ("P9", bounds, P9 + (0, 0, 0, 0), (0, "open", -1, 4, 1)),
+    ("P9", bounds, P9 + (1, 0, 0, 0), (0, "open", -2, 4, 1)),
+    *(("P9", value, P9 + (U, V), (0, U * 2)) for U in (0, 2) for V in (0, 2)),
+    ("P10", check, P10, (0, None, None)),
+    ("P10", check, P10_REFUSED, (6, 0, 0)),
+    ("P11", check, P11, (0, None, None)),
+    ("P11", check, P11_REFUSED, (4, 0, 0)),
+    ("P12", check, P12, (0, 0, 62)),
+    *(("P12", check, sheet(8, {e: sign}, 0, 0, 7), (6, 0, 0)) for e in exponents(8) for sign in (1, -1)),
+]
+
+
+def main():
+    wrong = 0
+    for name, call, given, printed in FIGURES:
+        answer = call(*given)
+        if len(answer) != len(printed) or any(p is not None and p != a for a, p in zip(answer, printed)):
+            print(f"{name}: {call.__name__}{given} answers {answer}, and the page says {printed}")
+            wrong += 1
+    print(f"second program: {len(FIGURES) - wrong} of {len(FIGURES)} of the page's figures hold")
+    return 1 if wrong else 0
+
+
+if __name__ == "__main__":
+    sys.exit(main())
