@@ -1,10 +1,10 @@
 """Each must-fail edit is refused by the facts that its 'refused:' lines name.
 
-An edit that only makes a proof unfit (a name that is missing, a text that is quoted in a proof) shows nothing. So every edit says, in
-lines 'refused: FILE DECLARATION', which declarations the prover must refuse. Each of them is refused for itself, and not because it
-cites another that was; the first that is refused at all is among them; and an edit of a definition is refused at a sample, too, a
-computation with numbers in a file Samples.antt, which no rewording of a proof can spoil. This reads the logs that `rt ci` leaves under
-target/must-fail/.
+An edit that only makes a proof unfit (a name that is missing, a term that a rewriting step does not find) shows nothing. So every
+edit says, in lines 'refused: FILE DECLARATION', which declarations the prover must refuse. Each of them is refused for itself, and not
+because it cites another that was; the first that is refused at all is among them; and an edit of a definition is refused at a
+computation with numbers too, in a file Samples.antt or Starred.antt, which no rewording of a proof can spoil. This reads the logs that
+`rt ci` leaves under target/must-fail/.
 """
 import pathlib
 import re
@@ -13,19 +13,13 @@ import sys
 ROOT = pathlib.Path(__file__).resolve().parent.parent
 ERROR = re.compile(r"^(?P<file>\S+):\d+:\d+: error: (?:in )?`(?P<name>[^`]+)`: ")
 NAMELESS = re.compile(r"^\S+:\d+:\d+: error: ")
-UNFIT = ("that can be named from here", "is not in scope", "it has no file")
+UNFIT = ("that can be named from here", "is not in scope", "it has no file", "no occurrence of")
 FOLLOWS = "was not admitted"
 
 
 def messages(log):
-    """The errors of a log, each with the indented lines that continue it."""
-    whole = []
-    for line in log.read_text().splitlines():
-        if NAMELESS.match(line):
-            whole.append(line)
-        elif whole and line.startswith("  "):
-            whole[-1] += " " + line.strip()
-    return whole
+    """The errors of a log, each by its first line: what follows it only explains."""
+    return [line for line in log.read_text().splitlines() if NAMELESS.match(line)]
 
 
 def judge(edit):
@@ -56,8 +50,9 @@ def judge(edit):
     missing = [" ".join(fact) for fact in said if fact not in found]
     if missing:
         return f"is not refused at {', '.join(missing)}"
-    if re.search(r"^file: specs/", text, re.M) and not any(file.endswith("Samples.antt") for file, _ in said):
-        return "changes a definition and names no sample that refuses it"
+    computed = ("Samples.antt", "Starred.antt")
+    if re.search(r"^file: specs/", text, re.M) and not any(file.endswith(computed) for file, _ in said):
+        return "changes a definition and names no computation that refuses it"
     return None
 
 

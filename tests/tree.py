@@ -5,6 +5,7 @@
 - Every file of a crate that a document names stands in the tree.
 - No axiom and no hole stands in a crate.
 - No file of a crate is over 400 lines, and none brings in a name that it does not use.
+- A public call, a `pub fn` at the root of a crate that the outside calls, has no `requires`.
 - No tracked file speaks of a place on somebody's machine.
 """
 import pathlib
@@ -14,6 +15,7 @@ import sys
 
 ROOT = pathlib.Path(__file__).resolve().parent.parent
 LONGEST = 400
+CALLS = ("sheet",)
 CITED = re.compile(r"`(crates/[^`]+\.antt)`((?:,? `[^`]+`)+)")
 PLACES = re.compile("/(?:" + "|".join(("opt", "home", "root", "work", "tmp", "usr")) + ")/")
 
@@ -63,6 +65,17 @@ def axioms_and_holes():
                 yield f"{path.relative_to(ROOT)}:{number} has an axiom or a hole"
 
 
+def requirements():
+    for crate in CALLS:
+        text = (ROOT / "crates" / crate / "src" / "lib.rt").read_text()
+        found = re.findall(r"^pub fn (\w+)\(.*?^\{", text, re.M | re.S)
+        if not found:
+            yield f"crates/{crate}/src/lib.rt has no public call"
+        for match in re.finditer(r"^pub fn (\w+)\(.*?^\{", text, re.M | re.S):
+            if re.search(r"^\s+requires\b", match[0], re.M):
+                yield f"{crate}::{match[1]} is a public call and has a `requires`"
+
+
 def lengths():
     for path in sources():
         count = len(path.read_text().splitlines())
@@ -97,7 +110,7 @@ def places():
 
 
 def main():
-    faults = [fault for check in (promises, edits, mentions, axioms_and_holes, lengths, imports, places) for fault in check()]
+    faults = [fault for check in (promises, edits, mentions, axioms_and_holes, requirements, lengths, imports, places) for fault in check()]
     for fault in faults:
         print(fault)
     print(f"tree: {len(faults)} faults in {len(sources())} source files")

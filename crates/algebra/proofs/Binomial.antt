@@ -127,9 +127,3 @@ module _ (u h : ℤ) where
   pub entry-size : (n k : ℕ) → natAbs (entry u h n k) ≤ (natAbs u + natAbs h) ^ n
   unfolding entry
   entry-size n k = simp (natAbs-*ℤ, natAbs-pow) (binomial-term-size (natAbs u) (natAbs h) n k)
-
-  -- and so are the two products of Pascal's rule, one row on
-  pub entry-step-size : (n k : ℕ) → (natAbs (h *ℤ entry u h n k) ≤ (natAbs u + natAbs h) ^ suc n) × (natAbs (u *ℤ entry u h n k) ≤ (natAbs u + natAbs h) ^ suc n)
-  entry-step-size n k =
-      let s = entry-size n k in let w = natAbs u + natAbs h in
-      rw (natAbs-*ℤ h, natAbs-*ℤ u, Nat.pow-suc w n, Nat.mul-comm (w ^ n) w) (Nat.mul-le-mul (Nat.le-add-left (natAbs h) (natAbs u)) s, Nat.mul-le-mul (Nat.le-add-right (natAbs u) (natAbs h)) s)

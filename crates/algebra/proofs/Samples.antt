@@ -8,7 +8,7 @@ use Rattle.algebra.specs.Sum.{sum, sumℕ, run, span, _⋯_}
 use Rattle.algebra.specs.Binomial.{choose, entry}
 use Rattle.algebra.specs.Horner.{shifted, load}
 use Rattle.algebra.specs.MinMax.{maxℤ, minℤ}
-use Rattle.algebra.specs.Triangle.{passed, row-start, place}
+use Rattle.algebra.specs.Triangle.{row-start, place}
 use Rattle.algebra.specs.Digits.{digits}
 use Rattle.algebra.proofs.Integer.{≡-by}
 use Rattle.algebra.proofs.Order.{≤ℤ-by, +ℤ-mono, *ℤ-mono₂, signs, bounds}
@@ -42,11 +42,6 @@ loads = refl
 pub extremes : (maxℤ (pos 2) (negsuc 4) ≡ pos 2) × (maxℤ (negsuc 4) (pos 2) ≡ pos 2) × (minℤ (pos 2) (negsuc 4) ≡ negsuc 4) × (minℤ (negsuc 4) (pos 2) ≡ negsuc 4)
 unfolding maxℤ minℤ
 extremes = (refl, refl, refl, refl)
-
--- loops from (1,1) with d 4, at the counters (2,2): the row 1 with its columns 1, 2 and 3, and the column 1 of the row 2
-pub loops : passed 4 (λ i j. pos (10 * i + j)) 1 1 2 2 ≡ pos (11 + 12 + 13 + 21)
-unfolding passed sum run span _⋯_
-loops = refl
 
 -- with d 2 the rows start at 0, 3 and 5 and end at 6, (0,2) stands at 2 and (1,1) at 4; with d 8 there are 45 places
 pub places : (map (row-start 2) (0 ⋯ 3) ≡ 0 ∷ 3 ∷ 5 ∷ 6 ∷ []) × (place 2 0 2 ≡ 2) × (place 2 1 1 ≡ 4) × (row-start 8 9 ≡ 45)

@@ -1,11 +1,6 @@
--- A triangle of terms f(i,j), i + j ≤ d, as nested loops pass it: row by row, a row i from a first column on to d - i.
+-- A triangle of terms f(i,j), i + j ≤ d: its sum, and its places when it is written out row by row.
 use Prim.Native.Nat.{ℕ, suc, _+_, _-_}
-use lib.IntN.{ℤ, _+ℤ_}
-use Rattle.algebra.specs.Sum.{sum, sumℕ, span, _⋯_}
-
--- what loops from (a,b) have added when their counters are (i,j): the rows from a on below i, each from the column b on, and of the row i the columns from b on below j
-unfoldable pub passed : ℕ → (ℕ → ℕ → ℤ) → ℕ → ℕ → ℕ → ℕ → ℤ
-passed d f a b i j = sum (span a i) (λ k. sum (b ⋯ (d - k)) (f k)) +ℤ sum (span b j) (f i)
+use Rattle.algebra.specs.Sum.{sumℕ, span, _⋯_}
 
 -- the sum of a whole triangle of natural numbers
 abbrev pub triangle : ℕ → (ℕ → ℕ → ℕ) → ℕ

@@ -14,6 +14,5 @@ pub mod Parts
 pub mod Depth
 pub mod Coordinates
 pub mod Plane
-pub mod Loops
 pub mod Turns
 pub mod Samples

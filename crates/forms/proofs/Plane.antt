@@ -11,13 +11,13 @@ use lib.IntN.{ℤ, pos, negsuc, _+ℤ_, _-ℤ_, _*ℤ_, negℤ, natAbs, pow, zer
 use lib.Pow.{pow-add}
 use lib.Signed.{_≤ℤ_}
 use Rattle.algebra.specs.Sum.{sum, sumℕ, _⋯_}
-use Rattle.algebra.specs.Binomial.{choose, entry}
+use Rattle.algebra.specs.Binomial.{choose}
 use Rattle.algebra.specs.MinMax.{minℤ, maxℤ}
 use Rattle.algebra.proofs.Integer.{*ℤ-idr, *ℤ-assoc}
-use Rattle.algebra.proofs.Power.{pos-pow, pow-*, pow-+}
+use Rattle.algebra.proofs.Power.{pos-pow, pow-*}
 use Rattle.algebra.proofs.Binomial.{choose-over}
 use Rattle.algebra.proofs.Ring.{ring, _⊕_, _⊖_, _⊗_, ⊝_, #_, _≐_}
-use Rattle.algebra.proofs.Sum.{sum-cong, sum-zero, sum-*ℤ, pos-sumℕ}
+use Rattle.algebra.proofs.Sum.{sum-cong, sum-zero, pos-sumℕ}
 use Rattle.algebra.proofs.Run.{sum-⋯-from}
 use Rattle.forms.specs.Vectors.{total, vectors, chooses, _∸_, all-even}
 use Rattle.forms.specs.Points.{Point, Each, powers, powersℕ}
@@ -80,14 +80,6 @@ module _ (d k : ℕ) (A : ℕ → ℕ → ℤ) where
       let first : (i : ℕ) → i < a → sum (0 ⋯ (d - i)) (t i) ≡ pos 0 = λ i l. sum-cong (0 ⋯ (d - i)) (λ j k. simp (choose-over i a l, *ℤ-zero, zero-*ℤ)) ∙ sum-zero (0 ⋯ (d - i)) in
       let second : (i j : ℕ) → j < b → t i j ≡ pos 0 = λ i j l. simp (choose-over j b l, *ℤ-zero, zero-*ℤ) in
       all-terms U0 V0 H a b ∙ sum-⋯-from a d (λ i. sum (0 ⋯ (d - i)) (t i)) first ∙ sum-cong (a ⋯ d) (λ i m. sum-⋯-from b (d - i) (t i) (second i))
-
-  -- by document 000's tables, one variable after the other
-  pub local-tables : (U0 V0 : ℤ) (H a b : ℕ) → local (plane d (2 ^ (k + 1)) A) (pair U0 V0) H (a ∷ b ∷ [])
-      ≡ sum (a ⋯ d) (λ i. sum (b ⋯ (d - i)) (λ j. A i j *ℤ pos (2 ^ ((k + 1) * (d - i - j))) *ℤ entry V0 (pos H) j b) *ℤ entry U0 (pos H) i a)
-  unfolding entry
-  local-tables U0 V0 H a b = local-plane U0 V0 H a b ∙ sum-cong (a ⋯ d) (λ i m. rw sum-*ℤ (sum-cong (b ⋯ (d - i)) (λ j l. rw (pow-+ (pos H) a b)
-      (ring (A i j ∷ pos (2 ^ ((k + 1) * (d - i - j))) ∷ pos (choose i a) ∷ pos (choose j b) ∷ pow U0 (i - a) ∷ pow V0 (j - b) ∷ pow (pos H) a ∷ pow (pos H) b ∷ [])
-      (λ c s x y u v h g. c ⊗ s ⊗ x ⊗ y ⊗ u ⊗ v ⊗ (h ⊗ g) ≐ c ⊗ s ⊗ (y ⊗ v ⊗ g) ⊗ (x ⊗ u ⊗ h)) tt))))
 
   -- ---- the weight: 2^((k+1)d) times the sum of |A(i,j)| Rx^i Ry^j, and of |A(i,j)| R^(i+j) where R is the limit of both variables
   pub weight-axes : (R : ℕ → ℕ) → weight (plane d (2 ^ (k + 1)) A) R ≡ 2 ^ ((k + 1) * d) * sumℕ (0 ⋯ d) (λ i. sumℕ (0 ⋯ (d - i)) (λ j. natAbs (A i j) * (R 0 ^ i * R 1 ^ j)))

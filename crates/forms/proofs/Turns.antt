@@ -6,22 +6,21 @@ use native.Mathlib.Nat as Nat
 use native.Mathlib.Omega.{arith}
 use lib.IntN.{ℤ, pos, _*ℤ_, natAbs, pow, zero-*ℤ, *ℤ-zero}
 use Rattle.algebra.specs.Sum.{sum, sumℕ, _⋯_}
-use Rattle.algebra.specs.Binomial.{entry}
+use Rattle.algebra.specs.Binomial.{choose, entry}
 use Rattle.algebra.specs.Triangle.{triangle}
-use Rattle.algebra.proofs.Integer.{*ℤ-idr}
-use Rattle.algebra.proofs.Power.{one-pow}
+use Rattle.algebra.proofs.Power.{pow-zero, pow-+}
 use Rattle.algebra.proofs.Absolute.{natAbs-*ℤ}
-use Rattle.algebra.proofs.Ring.{ring, _⊗_, _≐_}
+use Rattle.algebra.proofs.Ring.{ring, _⊗_, #_, _≐_}
 use Rattle.algebra.proofs.Sum.{sum-cong, sum-zero, sum-*ℤ, sumℕ-cong, sumℕ-mono, sumℕ-member, *-sumℕ, natAbs-sum-le}
 use Rattle.algebra.proofs.Run.{⋯-member, member-⋯, sum-⋯-from, sum-⋯-upto, sumℕ-span-part}
-use Rattle.algebra.proofs.Binomial.{entry-over, entry-zero, entry-size}
-use Rattle.forms.specs.Polynomial.{value}
-use Rattle.forms.specs.LocalForm.{local}
+use Rattle.algebra.proofs.Binomial.{choose-zero, entry-over, entry-size}
+use Rattle.forms.specs.Vectors.{total}
+use Rattle.forms.specs.Points.{powersℕ}
+use Rattle.forms.specs.Polynomial.{scaled}
 use Rattle.forms.specs.Weight.{weight, majorant}
-use Rattle.forms.specs.Plane.{pair, plane, turned}
-use Rattle.forms.proofs.Plane.{sumℕ-plane, scale-page, value-plane, local-tables}
+use Rattle.forms.specs.Plane.{plane, turned, moved}
+use Rattle.forms.proofs.Plane.{sumℕ-plane, scale-page}
 use Rattle.forms.proofs.Size.{weight-majorants}
-use Rattle.forms.proofs.Loops.{majorant-plane}
 
 -- ---- the powers of the moved variable below b give nothing to b
 module _ (d : ℕ) (f : ℕ → ℕ → ℤ) (u h : ℤ) where
@@ -42,16 +41,25 @@ module _ (d : ℕ) (f : ℕ → ℕ → ℤ) (u h : ℤ) where
       all ∙ sum-⋯-from a d t (λ i l. ap (λ x. turned d f u h b i *ℤ x) (entry-over v g i a l) ∙ *ℤ-zero (turned d f u h b i))
       ∙ sum-cong (a ⋯ d) (λ i m. ap (λ x. x *ℤ entry v g i a) (turned-from b i))
 
+-- ---- the local form of a table, by two turns; and its first place, which is the value at (u, v)
+module _ (d : ℕ) (f : ℕ → ℕ → ℤ) (u v h : ℤ) where
+  pub moved-turns : (a b : ℕ) → turned d (turned d f v h) u h a b ≡ moved d f u v h a b
+  unfolding entry moved
+  moved-turns a b = two-turns d f v h u h a b ∙ sum-cong (a ⋯ d) (λ i m. rw sum-*ℤ (sum-cong (b ⋯ (d - i)) (λ j l. rw (pow-+ h a b)
+      (ring (f i j ∷ pos (choose i a) ∷ pos (choose j b) ∷ pow u (i - a) ∷ pow v (j - b) ∷ pow h a ∷ pow h b ∷ []) (λ c x y u v g k. c ⊗ (y ⊗ v ⊗ k) ⊗ (x ⊗ u ⊗ g) ≐ c ⊗ x ⊗ y ⊗ u ⊗ v ⊗ (g ⊗ k)) tt))))
+
+  pub moved-first : moved d f u v h 0 0 ≡ sum (0 ⋯ d) (λ i. sum (0 ⋯ (d - i)) (λ j. f i j *ℤ pow u i *ℤ pow v j))
+  unfolding moved
+  moved-first = sum-cong (0 ⋯ d) (λ i m. sum-cong (0 ⋯ (d - i)) (λ j l. rw (choose-zero i, choose-zero j, pow-zero h, Nat.sub-zero i, Nat.sub-zero j)
+      (ring (f i j ∷ pow u i ∷ pow v j ∷ []) (λ c u v. c ⊗ # 1 ⊗ # 1 ⊗ u ⊗ v ⊗ # 1 ≐ c ⊗ u ⊗ v) tt)))
+
+module _ (d S : ℕ) (A : ℕ → ℕ → ℤ) (R : ℕ → ℕ) where
+  -- |A(i,j)| S^(d-i-j) (S Rx)^i (S Ry)^j, of which the weight is the sum
+  majorant-plane : (i j : ℕ) → majorant (plane d S A) R (i ∷ j ∷ []) ≡ natAbs (A i j *ℤ pow (pos S) (d - i - j)) * ((S * R 0) ^ i * (S * R 1) ^ j)
+  unfolding majorant scaled total powersℕ
+  majorant-plane i j = rw (Nat.add-zero, Nat.sub-add-eq, Nat.mul-one)
+
 module _ (d k : ℕ) (A : ℕ → ℕ → ℤ) where
-  -- ---- the local form, and the value, which is that of a box without extent
-  pub turned-twice : (U0 V0 : ℤ) (H a b : ℕ) → turned d (turned d (λ i j. A i j *ℤ pos (2 ^ ((k + 1) * (d - i - j)))) V0 (pos H)) U0 (pos H) a b ≡ local (plane d (2 ^ (k + 1)) A) (pair U0 V0) H (a ∷ b ∷ [])
-  turned-twice U0 V0 H a b = two-turns d _ V0 (pos H) U0 (pos H) a b ∙ sym (local-tables d k A U0 V0 H a b)
-
-  pub turned-value : (U W : ℤ) → turned d (turned d (λ i j. A i j *ℤ pos (2 ^ ((k + 1) * (d - i - j)))) W (pos 0)) U (pos 0) 0 0 ≡ value (plane d (2 ^ (k + 1)) A) (pair U W) 1
-  turned-value U W = two-turns d _ W (pos 0) U (pos 0) 0 0 ∙ sum-cong (0 ⋯ d) (λ i m. rw sum-*ℤ (sum-cong (0 ⋯ (d - i)) (λ j l.
-      rw (entry-zero W (pos 0) j, entry-zero U (pos 0) i, one-pow (d - i - j), *ℤ-idr)
-      (ring (A i j ∷ pos (2 ^ ((k + 1) * (d - i - j))) ∷ pow U i ∷ pow W j ∷ []) (λ c s u w. c ⊗ s ⊗ w ⊗ u ≐ c ⊗ s ⊗ u ⊗ w) tt)))) ∙ sym (value-plane d k A U W 1)
-
   -- ---- the weight, as the sum over the scaled coefficients
   pub scaled-weight : (R : ℕ → ℕ) → triangle d (λ i j. natAbs (A i j *ℤ pos (2 ^ ((k + 1) * (d - i - j)))) * ((2 ^ (k + 1) * R 0) ^ i * (2 ^ (k + 1) * R 1) ^ j)) ≡ weight (plane d (2 ^ (k + 1)) A) R
   scaled-weight R = let S = 2 ^ (k + 1) in sym (weight-majorants (plane d S A) R ∙ sumℕ-plane d (majorant (plane d S A) R)

@@ -39,3 +39,7 @@ even-pair centred a b = false
 -- P at the four corners of the square of centre (U0,V0) and half-side H: lower left, lower right, upper left, upper right
 abbrev pub AtCorners : ℤ → ℤ → ℕ → (ℤ → ℤ → Type 0) → Type 0
 AtCorners U0 V0 H P = P (U0 -ℤ pos H) (V0 -ℤ pos H) × P (U0 +ℤ pos H) (V0 -ℤ pos H) × P (U0 -ℤ pos H) (V0 +ℤ pos H) × P (U0 +ℤ pos H) (V0 +ℤ pos H)
+
+-- the local form of a table f(i,j), i + j ≤ d, about (u, v) with the half-side h: the sum over i ≥ a, j ≥ b of f(i,j) C(i,a) C(j,b) u^(i-a) v^(j-b) h^(a+b)
+unfoldable pub moved : ℕ → (ℕ → ℕ → ℤ) → ℤ → ℤ → ℤ → ℕ → ℕ → ℤ
+moved d f u v h a b = sum (a ⋯ d) (λ i. sum (b ⋯ (d - i)) (λ j. f i j *ℤ pos (choose i a) *ℤ pos (choose j b) *ℤ pow u (i - a) *ℤ pow v (j - b) *ℤ pow h (a + b)))

@@ -3,10 +3,9 @@ use mathlib.Core.Path.{_≡_, refl, sym, _∙_, ap, subst}
 use mathlib.Core.Bool.{true, false, cond}
 use mathlib.Core.List.{[], _∷_}
 use Prim.Native.Nat.{ℕ, zero, suc, _+_, _≤_}
-use native.Mathlib.Nat as Nat
 use native.Mathlib.Omega.{arith}
 use borrow.Author.Tests.{ltb-true, lt-ltb, eq-eqb, ne-eqb}
-use lib.Dec.{T, leb, ltb, eqb}
+use lib.Dec.{T, leb, eqb}
 use lib.IntN.{ℤ, pos, negsuc, negℤ, natAbs}
 use lib.Signed.{ltZ}
 use Rattle.algebra.specs.MinMax.{minℤ, maxℤ}
@@ -14,7 +13,7 @@ use Rattle.algebra.proofs.Absolute.{natAbs-negℤ}
 use Rattle.algebra.proofs.Choice.{choice}
 use Rattle.forms.specs.Bounds.{Mode, low, high, bent}
 use Rattle.forms.specs.Plane.{even-pair}
-use Rattle.forms.proofs.Bounds.{natAbs-low, natAbs-high, bent-le}
+use Rattle.forms.proofs.Bounds.{natAbs-low, natAbs-high}
 use Rattle.forms.proofs.Plane.{low-plane, high-plane, bent-plane}
 use Rattle.local.specs.declared.Spread.{Spread}
 use Rattle.local.specs.Range.{falls, rises, part-of}

@@ -2,7 +2,7 @@
 use mathlib.Core.Path.{_≡_, refl, sym, _∙_, ap}
 use mathlib.Core.Bool.{Bool, true, false, cond}
 use mathlib.Core.List.{[], _∷_}
-use Prim.Native.Nat.{ℕ, zero, suc, _+_, _*_, _-_, _^_, _≤_, _<_}
+use Prim.Native.Nat.{ℕ, zero, suc, _+_, _-_, _^_, _<_}
 use native.Mathlib.Nat as Nat
 use native.Mathlib.Decide.{decLe}
 use native.Mathlib.Omega.{arith}
@@ -10,7 +10,7 @@ use borrow.Author.Tests.{lt-ltb, eq-eqb, ne-eqb}
 use lib.Dec.{eqb}
 use lib.IntN.{ℤ, pos, negsuc, _+ℤ_, _-ℤ_, negℤ, natAbs}
 use Rattle.algebra.specs.Sum.{sum, sumℕ, span, _⋯_}
-use Rattle.algebra.specs.Triangle.{place, triangle}
+use Rattle.algebra.specs.Triangle.{triangle}
 use Rattle.algebra.specs.MinMax.{minℤ}
 use Rattle.algebra.proofs.Absolute.{natAbs-negℤ}
 use Rattle.algebra.proofs.Ring.{ring, _⊕_, _⊖_, ⊝_, #_, _≐_}
@@ -18,7 +18,7 @@ use Rattle.algebra.proofs.Sum.{sum-cong, sum-+, negℤ-sum, pos-sumℕ, sumℕ-
 use Rattle.algebra.proofs.Run.{sum-span-first, sum-span-zero, member-⋯}
 use Rattle.algebra.proofs.Triangle.{triangle-mono}
 use Rattle.algebra.proofs.Places.{row-start-zero}
-use Rattle.forms.specs.Bounds.{Mode, low, high}
+use Rattle.forms.specs.Bounds.{Mode, low}
 use Rattle.forms.specs.Plane.{even-pair}
 use Rattle.forms.proofs.Bounds.{high-low}
 use Rattle.forms.proofs.Plane.{low-plane}

@@ -1,22 +1,22 @@
 -- Sums of spreads: what holds where a loop has added the spreads f(0), .., f(n-1), and that each sum leaves room.
-use mathlib.Core.Path.{_≡_, refl, sym, _∙_, ap}
+use mathlib.Core.Path.{_≡_, refl, sym}
 use mathlib.Core.List.{List, [], _∷_}
-use Prim.Native.Nat.{ℕ, suc, _+_, _*_, _-_, _^_, _≤_, _<_}
+use Prim.Native.Nat.{ℕ, suc, _+_, _-_, _^_, _≤_, _<_}
 use native.Mathlib.Nat as Nat
 use native.Mathlib.Omega.{arith}
 use lib.IntN.{ℤ, natAbs}
 use Rattle.algebra.specs.Sum.{sumℕ, run, span, _⋯_}
-use Rattle.algebra.specs.Triangle.{row-start, triangle}
+use Rattle.algebra.specs.Triangle.{row-start}
 use Rattle.algebra.proofs.Sum.{sumℕ-mono, sumℕ-member}
 use Rattle.algebra.proofs.Run.{sumℕ-span-next, sumℕ-span-part, member-⋯}
 use Rattle.algebra.proofs.Places.{place-all, places-45}
-use Rattle.forms.specs.Bounds.{Mode, bent}
+use Rattle.forms.specs.Bounds.{Mode}
 use Rattle.forms.proofs.Bounds.{bent-le}
 use Rattle.local.specs.declared.Form.{Form}
 use Rattle.local.specs.declared.Spread.{Spread}
 use Rattle.local.specs.Horner.{row-of}
 use Rattle.local.specs.Table.{held}
-use Rattle.local.specs.Range.{falls, rises, part-of, both, row-spread-of, table-spread-of, Weighable, Light}
+use Rattle.local.specs.Range.{part-of, both, row-spread-of, Weighable, Light}
 use Rattle.local.proofs.Parts.{same, falls-le, rises-le}
 
 abbrev none : Spread

@@ -6,7 +6,7 @@ use native.Mathlib.Nat as Nat
 use native.Mathlib.Decide.{decLe}
 use native.Mathlib.Omega.{arith}
 use lib.IntN.{ℤ, pos, _+ℤ_, _*ℤ_, natAbs}
-use lib.ListN.{length, getD, set, replicate, length-set}
+use lib.ListN.{length, set, replicate, length-set}
 use lib.Seq.{getD-set-same, getD-set-other}
 use Rattle.algebra.specs.Horner.{shifted, load}
 use Rattle.algebra.proofs.Horner.{shifted-none, shifted-zero, shifted-suc, shifted-over, shifted-size, load-next}

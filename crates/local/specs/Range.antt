@@ -17,7 +17,7 @@ use Rattle.local.specs.declared.Verdict.the-variants.{Above, Below, Open
 use Rattle.local.specs.Horner.{row-of}
 use Rattle.local.specs.Table.{held}
 
--- a mode: 0 modified affine, 1 centred form
+-- a mode: 0 modified affine, 1 centred form. Any other number is refused by 5 before this is asked
 abbrev pub mode-of : ℕ → Mode
 mode-of zero = affine
 mode-of (suc n) = centred

@@ -6,7 +6,6 @@ use lib.IntN.{ℤ, pos, natAbs}
 use lib.ListN.{length}
 use Rattle.algebra.specs.Sum.{sumℕ, _⋯_}
 use Rattle.algebra.specs.Triangle.{row-start, place, triangle}
-use Rattle.forms.specs.Plane.{turned}
 use Rattle.local.specs.declared.Form.{Form}
 use Rattle.local.specs.Horner.{at}
 
@@ -34,11 +33,7 @@ pub record Turnable (form : Form) (u h : ℤ) : Type 0 where
   pub wide : natAbs u + natAbs h ≤ b
   pub light : (i : ℕ) → i ≤ form .degree → sumℕ (0 ⋯ (form .degree - i)) (λ j. natAbs (held form i j) * b ^ j) < 2 ^ 63
 
--- ---- the table moved about (u, v): two turns
-abbrev pub moved : ℕ → (ℕ → ℕ → ℤ) → ℤ → ℤ → ℤ → ℕ → ℕ → ℤ
-moved d f u v h = turned d (turned d f v h) u h
-
--- the sizes leave room for it, with a at least |u| + |h| and b at least |v| + |h|
+-- ---- the sizes leave room to move the table about (u, v), with a at least |u| + |h| and b at least |v| + |h|
 pub record Movable (form : Form) (u v h : ℤ) : Type 0 where
   pub small : form .degree ≤ 8
   pub a : ℕ

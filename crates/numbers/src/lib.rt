@@ -1,4 +1,5 @@
 // Whole numbers on the machine: sums of two products, sizes, and arithmetic with a ceiling.
+// An inner crate: what its functions require, every caller proves.
 ghost use mathlib.Core.Path.{_≡_};
 ghost use Prim.Native.Nat.{_+_, _*_, _^_, _≤_, _<_, min, max};
 ghost use lib.IntN.{pos, _+ℤ_, _*ℤ_, natAbs};
@@ -79,9 +80,16 @@ pub fn power(n: u32) -> i64
     1i64 << n
 }
 
-// z, with more room
+// z in 64 bits, where its size fits too: that of -2^31 does not fit 32.
 pub fn wide(z: i32) -> i64
-    ensures { λ r. ⌜ r ≡ z ⌝ }
+    ensures { λ r. ⌜ (r ≡ z) × (natAbs z ≤ 2 ^ 31) ⌝ }
 {
     z as i64
+}
+
+// n as a signed number
+pub fn whole(n: u32) -> i64
+    ensures { λ r. ⌜ r ≡ pos n ⌝ }
+{
+    n as i64
 }

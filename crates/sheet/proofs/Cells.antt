@@ -1,11 +1,11 @@
 -- The cells lie in the square, and the square within R.
-use mathlib.Core.Path.{_≡_, refl, sym, _∙_, ap, subst}
+use mathlib.Core.Path.{_≡_, sym, _∙_, ap, subst}
 use mathlib.Core.Bool.{false, not}
 use mathlib.Core.List.{[], _∷_}
-use Prim.Native.Nat.{ℕ, suc, _+_, _*_, _-_, _^_, _≤_, _<_, max}
+use Prim.Native.Nat.{ℕ, _+_, _*_, _-_, _^_, _≤_, _<_}
 use native.Mathlib.Nat as Nat
 use native.Mathlib.Omega.{arith}
-use lib.IntN.{ℤ, pos, negℤ, _+ℤ_, _-ℤ_, _*ℤ_, natAbs}
+use lib.IntN.{ℤ, pos, _+ℤ_, _-ℤ_, _*ℤ_, natAbs}
 use lib.Dec.{T}
 use lib.Pow.{pow-add, pow-mono}
 use lib.Signed.{_≤ℤ_, ltZ, ltZ-no}
@@ -51,7 +51,7 @@ module _ (S : Sheet) (j p : ℕ) (level : j ≤ S .k) (column : p < 2 ^ j) where
   H = half-side S j
 
   -- 2^j cells of side 2 H make the square's side
-  cells-make : 2 ^ j * (2 * H) ≡ 2 ^ (S .k + 1) * 2 ^ S .s
+  pub cells-make : 2 ^ j * (2 * H) ≡ 2 ^ (S .k + 1) * 2 ^ S .s
   cells-make =
       let e : j + (S .s + S .k - j) ≡ S .k + S .s = omega arith in let f : S .k + 1 + S .s ≡ 1 + (S .k + S .s) = omega arith in
       Nat.mul-left-comm (2 ^ j) 2 H ∙ ap (λ n. 2 * n) (sym (pow-add 2 j (S .s + S .k - j)) ∙ ap (λ n. 2 ^ n) e) ∙ sym (pow-add 2 1 (S .k + S .s)) ∙ ap (λ n. 2 ^ n) (sym f) ∙ pow-add 2 (S .k + 1) (S .s)
@@ -80,7 +80,7 @@ module _ (S : Sheet) (j p q : ℕ) (c : IsCell S j p q) where
   limit-v = cell-limit S j q (c .level) (c .row) (S .Y) (R S) (omega arith) (omega arith)
 
 -- ---- a whole-number point that is not outside the square: its coordinates are at most 2^(k+1) R
-inside-side : (s k : ℕ) (z u : ℤ) → outside-side s k z u ≡ false → ((pos (2 ^ (k + 1)) *ℤ z) ≤ℤ u) × (u ≤ℤ (pos (2 ^ (k + 1)) *ℤ (z +ℤ pos (2 ^ s))))
+pub inside-side : (s k : ℕ) (z u : ℤ) → outside-side s k z u ≡ false → ((pos (2 ^ (k + 1)) *ℤ z) ≤ℤ u) × (u ≤ℤ (pos (2 ^ (k + 1)) *ℤ (z +ℤ pos (2 ^ s))))
 inside-side s k z u e = let h = or-both (ltZ u (pos (2 ^ (k + 1)) *ℤ z)) (ltZ (pos (2 ^ (k + 1)) *ℤ (z +ℤ pos (2 ^ s))) u) e in (at-least (h .0), at-least (h .1))
   where
     at-least : {a b : ℤ} → ltZ a b ≡ false → b ≤ℤ a

@@ -1,8 +1,8 @@
 -- Demand 3 for the cells of a sheet.
-use mathlib.Core.Path.{_≡_, refl, sym, _∙_, ap, subst}
+use mathlib.Core.Path.{_≡_, refl, sym, _∙_, subst}
 use mathlib.Core.Bool.{Bool, true, false, not, cond}
 use mathlib.Core.List.{[], _∷_}
-use Prim.Native.Nat.{ℕ, _+_, _*_, _^_, _≤_, _<_}
+use Prim.Native.Nat.{ℕ, _+_, _*_, _^_, _≤_}
 use native.Mathlib.Nat as Nat
 use native.Mathlib.Omega.{arith}
 use lib.Dec.{T}
@@ -10,23 +10,22 @@ use lib.IntN.{ℤ, pos, negℤ, _+ℤ_, _-ℤ_, _*ℤ_, natAbs}
 use lib.Pow.{pow-mono}
 use lib.Signed.{_≤ℤ_, _<ℤ_, ltZ, ltZ-yes, ltZ-no}
 use Rattle.algebra.proofs.Absolute.{natAbs-+ℤ, natAbs-negℤ}
-use Rattle.forms.specs.Points.{Point}
 use Rattle.forms.specs.Polynomial.{value}
-use Rattle.forms.specs.Box.{InBox, Meets}
+use Rattle.forms.specs.Box.{InBox}
 use Rattle.forms.specs.LocalForm.{local}
 use Rattle.forms.specs.Bounds as Bounds
 use Rattle.forms.specs.Weight as Weights
 use Rattle.forms.specs.Plane.{pair, AtCorners}
 use Rattle.forms.proofs.Demand3 as Box
 use Rattle.forms.proofs.NoBend.{meets}
-use Rattle.forms.proofs.Plane.{both, pair-index, in-plane, value-pair, lower-four-corners, upper-four-corners, weight-plane}
-use Rattle.forms.proofs.Size.{local-size, lower-size, upper-size, bend-size, value-in-box-size}
+use Rattle.forms.proofs.Plane.{both, pair-index, in-plane, value-pair, lower-four-corners, upper-four-corners}
+use Rattle.forms.proofs.Size.{local-size, lower-size, upper-size, bend-size, box-limited, value-in-box-size}
 use Rattle.local.specs.declared.Verdict.{Verdict}
 use Rattle.local.specs.declared.Verdict.the-variants.{Above, Below, Open}
 use Rattle.local.specs.Range.{judged}
 use Rattle.sheet.specs.Sheet.{Sheet, A}
-use Rattle.sheet.specs.Scaled.{F, IsCell, InCell, half-side, U0, V0, value-at, MeetsCurve}
-use Rattle.sheet.specs.Bounds.{lower, upper, bend, verdict}
+use Rattle.sheet.specs.Scaled.{F, IsCell, InCell, half-side, U0, V0}
+use Rattle.sheet.specs.Bounds.{lower, upper, bend}
 use Rattle.sheet.specs.Weight.{R, weight, Accepted}
 use Rattle.sheet.specs.Demand3.{Contained, NoOvershoot, OneSign, OpenMeets, Fits64, AllFit}
 use Rattle.sheet.proofs.Cells.{limit-u, limit-v}
@@ -130,6 +129,8 @@ module _ (S : Sheet) (j p q : ℕ) (c : IsCell S j p q) where
         let left = fits-limit (U0 S j p -ℤ pos H) (minus-le (U0 S j p) H n hu) in let right = fits-limit (U0 S j p +ℤ pos H) (plus-le (U0 S j p) H n hu) in
         let bottom = fits-limit (V0 S j q -ℤ pos H) (minus-le (V0 S j q) H n hv) in let top = fits-limit (V0 S j q +ℤ pos H) (plus-le (V0 S j q) H n hv) in
         record {
+          half = fits-limit (pos H) (omega arith);
+          points = λ x y i. let b = box-limited P u H r (pair x y) limited (in-box S j p q i) in (fits-limit x (b 0 (omega arith)), fits-limit y (b 1 (omega arith)));
           centre = (fits-limit (U0 S j p) (omega arith), fits-limit (V0 S j q) (omega arith));
           edges = ((left, bottom), (right, bottom), (left, top), (right, top));
           form = λ a b l. rw (G-is S j p q a b) (fits-weight (local P u H (a ∷ b ∷ [])) (local-size P u H r limited (a ∷ b ∷ []) (pair-index (S .d) (2 ^ (S .k + 1)) (A S) a b l)));

@@ -1,7 +1,7 @@
 -- The forms of a sheet: its scaled coefficients may be moved about any point of the square, and moved about a cell's centre they are its local form.
 use mathlib.Core.Path.{_≡_, sym, _∙_, ap, subst}
 use mathlib.Core.List.{[], _∷_, List·Memᴰ}
-use Prim.Native.Nat.{ℕ, _+_, _*_, _-_, _^_, _≤_, _<_}
+use Prim.Native.Nat.{ℕ, _+_, _*_, _-_, _^_, _≤_}
 use native.Mathlib.Nat as Nat
 use native.Mathlib.Omega.{arith}
 use lib.IntN.{ℤ, pos, natAbs}
@@ -14,24 +14,23 @@ use Rattle.algebra.proofs.Places.{row-start-zero}
 use Rattle.forms.specs.Bounds.{Mode, low, high, bent}
 use Rattle.forms.specs.Vectors.{vectors}
 use Rattle.forms.specs.LocalForm.{local}
-use Rattle.forms.specs.Plane.{turned}
+use Rattle.forms.specs.Plane.{moved}
 use Rattle.forms.proofs.Plane.{low-plane, high-plane, bent-plane, sumℕ-plane}
 use Rattle.forms.proofs.Size.{local-sum-size}
-use Rattle.forms.proofs.Turns.{turned-twice, turned-value}
+use Rattle.forms.proofs.Turns.{moved-first}
 use Rattle.local.specs.declared.Form.{Form}
 use Rattle.local.specs.declared.Range.{Range}
 use Rattle.local.specs.Horner.{at}
-use Rattle.local.specs.Table.{held, moved, Tabled, Movable}
-use Rattle.local.specs.Range.{judged, lower-of, upper-of, bend-of, Light, Ranged}
-use Rattle.local.proofs.Moves.{turned-agree}
-use Rattle.sheet.specs.Sheet.{Sheet, A}
-use Rattle.sheet.specs.Scaled.{F, IsCell, half-side, U0, V0}
+use Rattle.local.specs.Table.{held, Tabled, Movable}
+use Rattle.local.specs.Range.{judged, lower-of, upper-of, Light, Ranged}
+use Rattle.local.proofs.Moves.{moved-agree}
+use Rattle.sheet.specs.Sheet.{Sheet}
+use Rattle.sheet.specs.Scaled.{scaled, F, IsCell, half-side, U0, V0}
 use Rattle.sheet.specs.LocalForm.{G}
 use Rattle.sheet.specs.Bounds.{lower, upper, bend, verdict}
-use Rattle.sheet.specs.Weight.{R, weight, Accepted}
-use Rattle.sheet.specs.Steps.{scaled}
+use Rattle.sheet.specs.Weight.{R, Accepted}
 use Rattle.sheet.proofs.Weights.{R-positive, weight-is, scaled-load}
-use Rattle.sheet.proofs.Page.{polynomial, centre, F-is, G-is}
+use Rattle.sheet.proofs.Page.{polynomial, centre, G-is}
 use Rattle.sheet.proofs.Demand3.{limited}
 
 -- ---- a form that holds f: sums over its triangle are sums over f
@@ -61,7 +60,7 @@ moved-held {d} {f} {form} {r} u v h t w =
     let x : Tabled d (moved d (held form) u v h) r = subst (λ n. Tabled n (moved n (held form) u v h) r) (t .degree) w in
     record {
       degree = x .degree;
-      each = λ i j l. x .each i j l ∙ turned-agree d (turned d (held form) v h) (turned d f v h) u h (turned-agree d (held form) f v h (held-is t)) i j l;
+      each = λ i j l. x .each i j l ∙ moved-agree d (held form) f u v h (held-is t) i j;
       unused = x .unused;
     }
 
@@ -82,16 +81,14 @@ module _ {S : Sheet} (a : Accepted S) {form : Form} (t : Tabled (S .d) (scaled S
 
   -- the value
   pub value-first : {r : Form} (u v : ℤ) → Tabled (form .degree) (moved (form .degree) (held form) u v (pos 0)) r → at (r .places) 0 ≡ F S u v
-  unfolding scaled
-  value-first u v w = first-held (moved-held u v (pos 0) t w) ∙ turned-value (S .d) (S .k) (A S) u v ∙ sym (F-is S u v)
+  unfolding F
+  value-first u v w = first-held (moved-held u v (pos 0) t w) ∙ moved-first (S .d) (scaled S) u v (pos 0)
 
   -- ---- about a cell's centre they are its local form
   module _ (j p q : ℕ) {r : Form} (w : Tabled (form .degree) (moved (form .degree) (held form) (U0 S j p) (V0 S j q) (pos (half-side S j))) r) where
     pub local-held : Tabled (S .d) (G S j p q) r
-    unfolding scaled
-    local-held =
-        let x = moved-held (U0 S j p) (V0 S j q) (pos (half-side S j)) t w in
-        record { degree = x .degree; each = λ i k l. x .each i k l ∙ turned-twice (S .d) (S .k) (A S) (U0 S j p) (V0 S j q) (half-side S j) i k ∙ sym (G-is S j p q i k); unused = x .unused }
+    unfolding G moved
+    local-held = moved-held (U0 S j p) (V0 S j q) (pos (half-side S j)) t w
 
     pub local-light : IsCell S j p q → Light r
     local-light c = record {

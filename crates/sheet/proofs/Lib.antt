@@ -1,9 +1,11 @@
+pub mod Promises
 pub mod Rows
 pub mod Weights
-pub mod Shifts
 pub mod Scaling
-pub mod Centres
 pub mod Cells
 pub mod Page
 pub mod Demand3
 pub mod Forms
+pub mod Facts
+pub mod Edges
+pub mod Samples

@@ -1,11 +1,9 @@
 -- The page's formulas are those of the polynomial with its coefficients, in the plane.
-use mathlib.Core.Path.{_≡_, refl, sym, _∙_, ap}
-use mathlib.Core.Bool.{cond}
+use mathlib.Core.Path.{_≡_, sym, _∙_, ap}
 use mathlib.Core.List.{[], _∷_}
-use Prim.Native.Nat.{ℕ, _+_, _*_, _-_, _^_, _≤_}
-use lib.Dec.{leb}
-use lib.IntN.{ℤ, pos, _*ℤ_, natAbs, pow}
-use Rattle.algebra.specs.Sum.{sum, sumℕ, _⋯_}
+use Prim.Native.Nat.{ℕ, _+_, _-_, _^_}
+use lib.IntN.{ℤ}
+use Rattle.algebra.specs.Sum.{_⋯_}
 use Rattle.algebra.proofs.Integer.{*ℤ-idr}
 use Rattle.algebra.proofs.Power.{one-pow}
 use Rattle.algebra.proofs.Sum.{sum-cong, sumℕ-cong}

@@ -1,19 +1,17 @@
 -- The refusal table, read from its first row on.
-use mathlib.Core.Path.{_≡_, refl, sym, _∙_, ap, subst}
+use mathlib.Core.Path.{_≡_, refl, sym, _∙_, subst}
 use mathlib.Core.Bool.{Bool, true, false, not, _||_, cond}
-use Prim.Native.Nat.{ℕ, zero, suc, _+_, _*_, _-_, _/_, _^_, _≤_, _<_, min}
-use native.Mathlib.Nat as Nat
+use Prim.Native.Nat.{ℕ, zero, suc, _^_, _≤_, _<_, min}
 use native.Mathlib.Omega.{arith}
-use borrow.Author.Tests.{ltb-true, ltb-false, leb-true, leb-false, lt-ltb, le-ltb, le-leb, lt-leb, eq-eqb, ne-eqb, eqb-true, not-false}
+use borrow.Author.Tests.{ltb-false, leb-false, lt-ltb, le-ltb, le-leb, lt-leb, eq-eqb, ne-eqb, eqb-true, not-false}
 use lib.Dec.{T, leb, ltb, eqb, leb·suc-suc}
 use lib.IntN.{ℤ, pos, negsuc, natAbs}
 use lib.ListN.{length}
-use lib.Signed.{ltZ}
-use Rattle.algebra.proofs.Ceiling.{min-met, met-min, min-below}
+use Rattle.algebra.proofs.Ceiling.{min-met}
 use Rattle.sheet.specs.Sheet.{Sheet, count, InRange}
 use Rattle.sheet.specs.Scaled.{IsCell}
 use Rattle.sheet.specs.Weight.{weight, Accepted}
-use Rattle.sheet.specs.Refusals.{outside-range, outside-side, misplaced, table, first, refusal, none, cell, point}
+use Rattle.sheet.specs.Refusals.{outside-range, misplaced, table, first, refusal, cell, point}
 use Rattle.sheet.specs.Answers.{unless, to-check, at-point, in-cell}
 use Rattle.sheet.specs.Steps.{range-refusal}
 
@@ -80,11 +78,11 @@ module _ (S : Sheet) where
       range-last h = rw (le-ltb 8 (S .d) degree, eq-eqb (length (S .coefficients)) (count (S .d)) counted, le-ltb 7 (S .k) h)
 
 -- ---- where none of them holds, all is in range
-both-zero : (n m : ℕ) → or-else n m ≡ 0 → (n ≡ 0) × (m ≡ 0)
+pub both-zero : (n m : ℕ) → or-else n m ≡ 0 → (n ≡ 0) × (m ≡ 0)
 both-zero zero m e = (refl, e)
 both-zero (suc n) m e = absurd (omega arith)
 
-next-row : (b : Bool) (n m : ℕ) → cond b (suc n) m ≡ 0 → (b ≡ false) × (m ≡ 0)
+pub next-row : (b : Bool) (n m : ℕ) → cond b (suc n) m ≡ 0 → (b ≡ false) × (m ≡ 0)
 next-row true n m e = absurd (omega arith)
 next-row false n m e = (refl, e)
 

@@ -1,56 +1,31 @@
 -- The coefficients of a sheet scaled: one place, and what holds where a row has been scaled up to the place j, and all rows before i.
 use mathlib.Core.Path.{_≡_, refl, sym, _∙_, ap}
 use mathlib.Core.List.{List}
-use Prim.Native.Nat.{ℕ, suc, _+_, _*_, _-_, _^_, _%_, _≤_, _<_}
+use Prim.Native.Nat.{ℕ, suc, _+_, _*_, _-_, _^_, _≤_, _<_}
 use native.Mathlib.Nat as Nat
 use native.Mathlib.Decide.{decLe}
 use native.Mathlib.Omega.{arith}
-use lib.IntN.{ℤ, pos, _*ℤ_, natAbs, zero-*ℤ}
+use lib.IntN.{ℤ, pos, _*ℤ_, natAbs}
 use lib.ListN.{length, set, length-set}
 use lib.Pow.{pow-mono}
 use lib.Seq.{getD-set-same, getD-set-other}
-use mir.Syntax.{w32, w64}
-use mir.Val.{SFits, toZ, ofZ}
-use mir.Facts.{toZ-ofZ}
 use Rattle.algebra.specs.Triangle.{row-start, place}
-use Rattle.algebra.proofs.Absolute.{natAbs-*ℤ, natAbs-zero}
+use Rattle.algebra.proofs.Absolute.{natAbs-zero}
 use Rattle.algebra.proofs.Places.{row-start-zero, row-start-next, row-start-mono, row-start-all, place-below, place-all, places-45}
-use Rattle.numbers.proofs.Machine.{fits64}
-use Rattle.weight.proofs.Machine.{wide}
 use Rattle.local.specs.Horner.{at}
 use Rattle.local.specs.Table.{Tabled}
 use Rattle.local.specs.declared.Form.{Form}
 use Rattle.sheet.specs.Sheet.{Sheet}
 use Rattle.sheet.specs.Weight.{Accepted}
-use Rattle.sheet.specs.Steps.{scaled, RowFits, ScaledRow}
+use Rattle.sheet.specs.Steps.{scaled-by, Scalable, RowFits, ScaledRow}
 use Rattle.sheet.proofs.Weights.{place-light}
-use Rattle.sheet.proofs.Shifts.{shift-one}
 
--- ---- one place: a times 2^n
-module _ (a : ℤ) (n : ℕ) (h : SFits w32 a) where
-  -- a zero coefficient stays 0, whatever the power
-  pub place-none : ofZ w32 a ≡ 0 → pos 0 ≡ a *ℤ pos (2 ^ n)
-  place-none e = let z : a ≡ pos 0 = sym (toZ-ofZ h) ∙ ap (toZ w32) e in rw z (sym (zero-*ℤ (pos (2 ^ n))))
-
-  -- beside a coefficient that is not 0 the power fits: its exponent is below 62, and the machine's product is the product
-  module _ (l : natAbs a * 2 ^ n < 2 ^ 62) (o : ofZ w32 a ≡ 0 → ⊥) where
-    some : 1 ≤ natAbs a
-    some = Nat.pos-of-ne-zero (λ e. o (ap (ofZ w32) (natAbs-zero a e)))
-
-    pub place-short : n < 62
-    place-short = elim (decLe 62 n) [
-      | yes k ↦ let p : 2 ^ 62 ≤ 2 ^ n = pow-mono k in let m = Nat.mul-le-mul-right (2 ^ n) some in absurd (omega arith)
-      | no k ↦ omega arith
-    ]
-
-    factor : toZ w64 (1 * 2 ^ n % 2 ^ 64) ≡ pos (2 ^ n)
-    factor = let s = place-short in shift-one n (omega arith)
-
-    pub place-fits : SFits w64 (toZ w64 (ofZ w64 (toZ w32 (ofZ w32 a))) *ℤ toZ w64 (1 * 2 ^ n % 2 ^ 64))
-    place-fits = rw (wide a h, factor) (fits64 (a *ℤ pos (2 ^ n)) (let e = natAbs-*ℤ a (pos (2 ^ n)) in omega arith))
-
-    pub place-is : toZ w64 (ofZ w64 (toZ w64 (ofZ w64 (toZ w32 (ofZ w32 a))) *ℤ toZ w64 (1 * 2 ^ n % 2 ^ 64))) ≡ a *ℤ pos (2 ^ n)
-    place-is = toZ-ofZ place-fits ∙ rw (wide a h, factor)
+-- ---- one place: beside a coefficient that is not 0 the power fits
+pub place-short : (a : ℤ) (n : ℕ) → natAbs a * 2 ^ n < 2 ^ 62 → (a ≡ pos 0 → ⊥) → n < 62
+place-short a n l o = elim (decLe 62 n) [
+  | yes k ↦ let p : 2 ^ 62 ≤ 2 ^ n = pow-mono k in let m = Nat.mul-le-mul-right (2 ^ n) (Nat.pos-of-ne-zero (λ e. o (natAbs-zero a e))) in absurd (omega arith)
+  | no k ↦ omega arith
+]
 
 -- ---- one row: the places before j are scaled, and the others are as they were
 pub record Scaling (coefficients : List ℤ) (first n k : ℕ) (old places : List ℤ) (j : ℕ) : Type 0 where
@@ -90,53 +65,55 @@ module _ {coefficients : List ℤ} {first n k : ℕ} {old : List ℤ} where
   scaling-end {places} {j} h p = record { long = p .long; row = λ m i. p .row m (omega arith); before = p .before; after = λ m i. p .after m (omega arith) }
 
 -- ---- all rows: those before i are scaled, and the places from `first` on are zero
-pub record Filling (S : Sheet) (places : List ℤ) (first i : ℕ) : Type 0 where
-  pub within : i ≤ S .d + 1
-  pub here : first ≡ row-start (S .d) i
+pub record Filling (d : ℕ) (A : List ℤ) (k : ℕ) (places : List ℤ) (first i : ℕ) : Type 0 where
+  pub within : i ≤ d + 1
+  pub here : first ≡ row-start d i
   pub long : length places ≡ 45
-  pub rows : (a b : ℕ) → a < i → a + b ≤ S .d → at places (place (S .d) a b) ≡ scaled S a b
+  pub rows : (a b : ℕ) → a < i → a + b ≤ d → at places (place d a b) ≡ scaled-by d A k a b
   pub rest : (m : ℕ) → first ≤ m → at places m ≡ pos 0
 
-module _ {S : Sheet} where
+module _ {d : ℕ} {A : List ℤ} {k : ℕ} where
   -- at first all places are zero
-  pub filling-start : {places : List ℤ} → length places ≡ 45 → ((m : ℕ) → at places m ≡ pos 0) → Filling S places 0 0
-  filling-start l z = record { within = omega arith; here = sym (row-start-zero (S .d)); long = l; rows = λ a b i. absurd (Nat.not-suc-le-zero i); rest = λ m i. z m }
+  pub filling-start : {places : List ℤ} → length places ≡ 45 → ((m : ℕ) → at places m ≡ pos 0) → Filling d A k places 0 0
+  filling-start l z = record { within = omega arith; here = sym (row-start-zero d); long = l; rows = λ a b i. absurd (Nat.not-suc-le-zero i); rest = λ m i. z m }
 
   -- each number of the next row fits
-  pub filling-row : {places : List ℤ} {first i : ℕ} → Accepted S → i ≤ S .d → Filling S places first i → RowFits (S .coefficients) first (S .d - i) (S .k)
-  filling-row {places} {first} {i} a h p =
-      let d = S .d in let r = a .ranges in let q = p .here in
-      let e = place-all d i (d - i) (omega arith) in let l = places-45 d (r .degree) in let n = row-start-all d in
+  pub filling-row : {places : List ℤ} {first i : ℕ} → Scalable d A k → i ≤ d → Filling d A k places first i → RowFits A first (d - i) k
+  filling-row {places} {first} {i} s h p =
+      let q = p .here in let e = place-all d i (d - i) (omega arith) in let l = places-45 d (s .degree) in let n = row-start-all d in let c = s .counted in
       record {
-        short = omega arith;
-        depth = r .depth;
+        short = let g = s .degree in omega arith;
+        depth = s .depth;
         inside = omega arith;
         given = omega arith;
-        light = λ j m. rw q (place-light a i j (omega arith));
+        light = λ j m. rw q (s .light i j (omega arith));
       }
 
   -- one row more
-  pub filling-next : {old new : List ℤ} {first i : ℕ} → i ≤ S .d → ScaledRow (S .coefficients) first (S .d - i) (S .k) old new → Filling S old first i → Filling S new (first + (S .d + 1 - i)) (i + 1)
-  unfolding scaled
+  pub filling-next : {old new : List ℤ} {first i : ℕ} → i ≤ d → ScaledRow A first (d - i) k old new → Filling d A k old first i → Filling d A k new (first + (d + 1 - i)) (i + 1)
   filling-next {old} {new} {first} {i} h s p =
-      let d = S .d in let q = p .here in
+      let q = p .here in
       record {
         within = omega arith;
         here = let r = row-start-next d i in omega arith;
         long = s .long;
         rows = λ a b l m. elim (decLe i a) [
-          | yes o ↦ let w : a ≡ i = omega arith in let z : at new (place d i b) ≡ scaled S i b = rw q at (s .row b (omega arith)) in rw w z
+          | yes o ↦ let w : a ≡ i = omega arith in let z : at new (place d i b) ≡ scaled-by d A k i b = rw q at (s .row b (omega arith)) in rw w z
           | no o ↦ s .before (place d a b) (let r = place-below d a b m in let t : row-start d (a + 1) ≤ row-start d i = row-start-mono d (omega arith) in omega arith) ∙ p .rows a b (omega arith) m
         ];
         rest = λ m l. s .after m (omega arith) ∙ p .rest m (omega arith);
       }
 
   -- past the last row the form holds the scaled coefficients
-  pub filling-end : {form : Form} {first i : ℕ} → form .degree ≡ S .d → S .d < i → Filling S (form .places) first i → Tabled (S .d) (scaled S) form
+  pub filling-end : {form : Form} {first i : ℕ} → form .degree ≡ d → d < i → Filling d A k (form .places) first i → Tabled d (scaled-by d A k) form
   filling-end {form} {first} {i} e h p =
-      let w : i ≡ suc (S .d) = omega arith in
+      let w : i ≡ suc d = omega arith in
       record {
         degree = e;
         each = λ a b l. p .rows a b (omega arith) l;
-        unused = λ m l. p .rest m (let q = p .here ∙ ap (row-start (S .d)) w in omega arith);
+        unused = λ m l. p .rest m (let q = p .here ∙ ap (row-start d) w in omega arith);
       }
+
+-- ---- an accepted sheet's coefficients may be scaled
+pub scalable : {S : Sheet} → Accepted S → Scalable (S .d) (S .coefficients) (S .k)
+scalable a = record { degree = a .ranges .degree; depth = a .ranges .depth; counted = a .ranges .counted; light = place-light a }

@@ -15,8 +15,8 @@ use Rattle.forms.specs.Weight.{weight as plane-weight}
 use Rattle.forms.proofs.Plane.{weight-plane}
 use Rattle.forms.proofs.Turns.{scaled-weight}
 use Rattle.sheet.specs.Sheet.{Sheet, A}
+use Rattle.sheet.specs.Scaled.{scaled}
 use Rattle.sheet.specs.Weight.{R, weight, Accepted}
-use Rattle.sheet.specs.Steps.{scaled}
 
 -- ---- R is at least 1: Z and Z + n, with n at least 1, are not both 0
 one-of : (z : ℤ) (n : ℕ) → 1 ≤ n → 1 ≤ max (natAbs z) (natAbs (z +ℤ pos n))
@@ -33,12 +33,11 @@ weight-is S = sym (weight-plane (S .d) (S .k) (A S) (R S))
 
 -- and the load of the scaled coefficients at 2^(k+1) R, which no point of the square is past
 pub scaled-load : (S : Sheet) → triangle (S .d) (λ i j. natAbs (scaled S i j) * ((2 ^ (S .k + 1) * R S) ^ i * (2 ^ (S .k + 1) * R S) ^ j)) ≡ weight S
-unfolding scaled
 scaled-load S = scaled-weight (S .d) (S .k) (A S) (λ v. R S) ∙ sym (weight-is S)
 
 -- ---- each scaled coefficient is at most the weight, and so below 2^62 on an accepted sheet
 -- one term of a triangle is at most the whole
-member-triangle : (d : ℕ) (g : ℕ → ℕ → ℕ) (i j : ℕ) → i + j ≤ d → g i j ≤ triangle d g
+pub member-triangle : (d : ℕ) (g : ℕ → ℕ → ℕ) (i j : ℕ) → i + j ≤ d → g i j ≤ triangle d g
 member-triangle d g i j h = Nat.le-trans (sumℕ-member (g i) (member-⋯ 0 (d - i) j (omega arith) (omega arith))) (sumℕ-member (λ i. sumℕ (0 ⋯ (d - i)) (g i)) (member-⋯ 0 d i (omega arith) (omega arith)))
 
 -- a factor of powers of m, at least 1, makes nothing smaller
@@ -48,7 +47,6 @@ times-powers n m i j h =
 
 -- the size of a scaled coefficient, as `scaled_row` asks for it
 pub place-light : {S : Sheet} → Accepted S → (i j : ℕ) → i + j ≤ S .d → natAbs (A S i j) * 2 ^ ((S .k + 1) * (S .d - i - j)) < 2 ^ 62
-unfolding scaled
 place-light {S} a i j h =
     let m = 2 ^ (S .k + 1) * R S in
     let o : 1 ≤ m = Nat.mul-le-mul (pow-pos (S .k + 1)) (R-positive S) in

@@ -1,7 +1,6 @@
 -- The answers of the calls: the values, or a refusal's number with zeros.
 use Prim.Native.Nat.{ℕ, zero, suc}
 use lib.IntN.{ℤ, pos}
-use Rattle.local.specs.declared.Verdict.{Verdict}
 use Rattle.local.specs.declared.Verdict.the-variants.{Above, Below, Open}
 use Rattle.sheet.specs.declared.Checked.{Checked}
 use Rattle.sheet.specs.declared.Checked.the-variants as Checked
@@ -11,42 +10,75 @@ use Rattle.sheet.specs.declared.Bounded.{Bounded}
 use Rattle.sheet.specs.declared.Bounded.the-variants as Bounded
 use Rattle.sheet.specs.Sheet.{Sheet, mode-of}
 use Rattle.sheet.specs.Scaled.{F}
-use Rattle.sheet.specs.Bounds.{bend, verdict}
+use Rattle.sheet.specs.Bounds.{lower, upper, bend, verdict}
 use Rattle.sheet.specs.Weight.{weight, spare}
-use Rattle.sheet.specs.Refusals.{Input, none, given, cell, point, refusal}
+use Rattle.sheet.specs.Refusals.{Input, not-given, given, nothing, cell, point, refusal}
 
--- the values where nothing is refused
-abbrev pub unless : {A : Type 0} → ℕ → (ℕ → A) → A → A
+-- by the refusal's number n: the values where it is 0, and else what n refuses
+abbrev pub unless : {X : Type 0} → ℕ → (ℕ → X) → X → X
 unless zero refused values = values
 unless (suc n) refused values = refused (suc n)
 
 -- ---- check a sheet
 abbrev pub to-check : Sheet → Input
-to-check S = record { sheet = S; mode = none; entries = none; question = none }
+to-check S = record { sheet = S; mode = not-given; entries = not-given; question = nothing }
 
 unfoldable pub checked : Sheet → Checked
 checked S = unless (refusal (to-check S)) Checked.Refused (Checked.Accepted (weight S) (spare S))
 
--- ---- value F at a whole-number point (U, V) of the closed square
-abbrev pub at-point : Sheet → ℤ → ℤ → Input
-at-point S u v = record { sheet = S; mode = none; entries = none; question = point u v }
-
-unfoldable pub valued : Sheet → ℤ → ℤ → Valued
-valued S u v = unless (refusal (at-point S u v)) Valued.Refused (Valued.At (F S u v))
-
--- ---- bounds and bend of a cell
-abbrev pub in-cell : Sheet → ℕ → ℕ → ℕ → ℕ → Input
-in-cell S mode j p q = record { sheet = S; mode = given mode; entries = none; question = cell j p q }
-
-unfoldable pub bounded : Sheet → ℕ → ℕ → ℕ → ℕ → Bounded
-bounded S mode j p q = unless (refusal (in-cell S mode j p q)) Bounded.Refused (Bounded.Cell (verdict S (mode-of mode) j p q) (bend S j p q))
-
--- ---- each case's number and values, as the page has them: number 0 where nothing is refused, and zeros beside a refusal's number
+-- the number, the weight and the spare places that each case states, and those of the page
 pub record Weighed : Type 0 where
   pub number : ℕ
   pub weight : ℕ
   pub spare : ℕ
 
-abbrev pub tells-weight : Checked → Weighed
-tells-weight (Checked.Accepted w n) = record { number = 0; weight = w; spare = n }
-tells-weight (Checked.Refused n) = record { number = n; weight = 0; spare = 0 }
+abbrev pub states-weight : Checked → Weighed
+states-weight (Checked.Accepted w n) = record { number = 0; weight = w; spare = n }
+states-weight (Checked.Refused n) = record { number = n; weight = 0; spare = 0 }
+
+unfoldable pub weighed : Sheet → Weighed
+weighed S = unless (refusal (to-check S)) (λ n. record { number = n; weight = 0; spare = 0 }) (record { number = 0; weight = weight S; spare = spare S })
+
+-- ---- value F at a whole-number point (U, V) of the closed square
+abbrev pub at-point : Sheet → ℤ → ℤ → Input
+at-point S u v = record { sheet = S; mode = not-given; entries = not-given; question = point u v }
+
+unfoldable pub valued : Sheet → ℤ → ℤ → Valued
+valued S u v = unless (refusal (at-point S u v)) Valued.Refused (Valued.At (F S u v))
+
+-- the number and the value
+pub record Evaluated : Type 0 where
+  pub number : ℕ
+  pub value : ℤ
+
+abbrev pub states-value : Valued → Evaluated
+states-value (Valued.At z) = record { number = 0; value = z }
+states-value (Valued.Refused n) = record { number = n; value = pos 0 }
+
+unfoldable pub evaluated : Sheet → ℤ → ℤ → Evaluated
+evaluated S u v = unless (refusal (at-point S u v)) (λ n. record { number = n; value = pos 0 }) (record { number = 0; value = F S u v })
+
+-- ---- bounds and bend of a cell
+abbrev pub in-cell : Sheet → ℕ → ℕ → ℕ → ℕ → Input
+in-cell S mode j p q = record { sheet = S; mode = given mode; entries = not-given; question = cell j p q }
+
+unfoldable pub bounded : Sheet → ℕ → ℕ → ℕ → ℕ → Bounded
+bounded S mode j p q = unless (refusal (in-cell S mode j p q)) Bounded.Refused (Bounded.Cell (verdict S (mode-of mode) j p q) (bend S j p q))
+
+-- the number, the two bounds and the bend
+pub record Measured : Type 0 where
+  pub number : ℕ
+  pub lower : ℤ
+  pub upper : ℤ
+  pub bend : ℕ
+
+abbrev pub states-bounds : Bounded → Measured
+states-bounds (Bounded.Cell (Above l u) n) = record { number = 0; lower = l; upper = u; bend = n }
+states-bounds (Bounded.Cell (Below l u) n) = record { number = 0; lower = l; upper = u; bend = n }
+states-bounds (Bounded.Cell (Open l u) n) = record { number = 0; lower = l; upper = u; bend = n }
+states-bounds (Bounded.Refused n) = record { number = n; lower = pos 0; upper = pos 0; bend = 0 }
+
+unfoldable pub measured : Sheet → ℕ → ℕ → ℕ → ℕ → Measured
+measured S mode j p q =
+    unless (refusal (in-cell S mode j p q)) (λ n. record { number = n; lower = pos 0; upper = pos 0; bend = 0 })
+    (record { number = 0; lower = lower S (mode-of mode) j p q; upper = upper S (mode-of mode) j p q; bend = bend S j p q })

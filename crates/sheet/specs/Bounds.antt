@@ -12,7 +12,9 @@ use Rattle.local.specs.Range.{judged}
 use Rattle.sheet.specs.Sheet.{Sheet}
 use Rattle.sheet.specs.LocalForm.{G}
 
--- both start from G(0,0). For every other (a,b): mode 0, a and b both even: the lower bound gains min(0, G), the upper gains max(0, G); otherwise the lower loses |G|, the upper gains |G|
+-- both start from G(0,0). For every other (a,b):
+-- mode 0, a and b both even (zero is even): the lower bound gains min(0, G), the upper gains max(0, G);
+-- mode 0 otherwise, and mode 1 always: the lower loses |G|, the upper gains |G|
 abbrev pub low : Mode → ℕ → ℕ → ℤ → ℤ
 low mode a b g = cond (eqb (a + b) 0) g (cond (even-pair mode a b) (minℤ (pos 0) g) (negℤ (pos (natAbs g))))
 

@@ -36,9 +36,11 @@ abbrev pub Fits64 : ℤ → Type 0
 Fits64 z = natAbs z < 2 ^ 63
 
 pub record AllFit (S : Sheet) (mode : Mode) (j p q : ℕ) : Type 0 where
-  -- the centre, and the cell's edges
+  -- the half-side, the centre, the edges, and every whole-number point of the cell
+  pub half : Fits64 (pos (half-side S j))
   pub centre : Fits64 (U0 S j p) × Fits64 (V0 S j q)
   pub edges : AtCorners (U0 S j p) (V0 S j q) (half-side S j) (λ u v. Fits64 u × Fits64 v)
+  pub points : (u v : ℤ) → InCell S j p q u v 1 → Fits64 u × Fits64 v
   pub form : (a b : ℕ) → a + b ≤ S .d → Fits64 (G S j p q a b)
   pub bounds : Fits64 (lower S mode j p q) × Fits64 (upper S mode j p q)
   pub bends : Fits64 (pos (bend S j p q))

@@ -1,4 +1,5 @@
--- Document 01 as definitions, in its order and words: all that a reader must believe. The statements that are proved of them stand here too.
+-- Document 01 as definitions, in its order and words, and the statements that are proved of them. Here are the sections from 'What a sheet holds' to 'Calls and refusals'; of the walk, what
+-- a colour, a raster and a tally are. Listings and texts come with their calls. A reader must also believe the sums, binomials, places and digits of `algebra`, and `mode-of` and `judged` of `local`.
 pub mod Sheet
 pub mod Scaled
 pub mod LocalForm
@@ -7,5 +8,7 @@ pub mod Walking
 pub mod Weight
 pub mod Refusals
 pub mod Answers
+pub mod Promises
+pub mod Facts
 pub mod Demand3
 pub mod Steps

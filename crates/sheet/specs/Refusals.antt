@@ -1,7 +1,7 @@
--- Calls and refusals: the table as one list, of which the first condition that holds gives the number.
+-- Calls and refusals: the table's rows 1 to 9 as one list, of which the first condition that holds gives the number. Rows 11 and 10, tried before them, are those of reading a text.
 use mathlib.Core.Bool.{Bool, false, not, _||_, cond}
 use mathlib.Core.List.{List, [], _∷_}
-use Prim.Native.Nat.{ℕ, _+_, _*_, _^_}
+use Prim.Native.Nat.{ℕ, _+_, _^_}
 use lib.Dec.{leb, ltb, eqb}
 use lib.IntN.{ℤ, pos, negsuc, _+ℤ_, _*ℤ_}
 use lib.ListN.{length}
@@ -13,11 +13,11 @@ use Rattle.sheet.specs.Walking.{visited}
 
 -- ---- what a call is given: a sheet; a mode, unless it takes none; the entries of a raster or listing place; a cell or a point
 pub data Given : Type 0 where
-  none : Given
+  not-given : Given
   given : ℕ → Given
 
 pub data Question : Type 0 where
-  none : Question
+  nothing : Question
   cell : ℕ → ℕ → ℕ → Question
   point : ℤ → ℤ → Question
 
@@ -29,7 +29,7 @@ pub record Input : Type 0 where
 
 -- a call skips what it has no input for
 abbrev pub if-given : Given → (ℕ → Bool) → Bool
-if-given none holds = false
+if-given not-given holds = false
 if-given (given n) holds = holds n
 
 -- ---- the conditions
@@ -43,7 +43,7 @@ outside-side s k z u = ltZ u (pos (2 ^ (k + 1)) *ℤ z) || ltZ (pos (2 ^ (k + 1)
 
 -- j > k, p or q not below 2^j; or the point is outside the closed square
 abbrev pub misplaced : Sheet → Question → Bool
-misplaced S none = false
+misplaced S nothing = false
 misplaced S (cell j p q) = ltb (S .k) j || leb (2 ^ j) p || leb (2 ^ j) q
 misplaced S (point u v) = outside-side (S .s) (S .k) (S .X) u || outside-side (S .s) (S .k) (S .Y) v
 
@@ -59,15 +59,24 @@ n when b = record { number = n; holds = b }
 unfoldable pub table : Input → List Row
 table c =
     let S = c .sheet in
+    -- d > 8
     (1 when ltb 8 (S .d))
+    -- coefficient count is not n
     ∷ (2 when not (eqb (length (S .coefficients)) (count (S .d))))
+    -- k > 7
     ∷ (3 when ltb 7 (S .k))
+    -- X or Y outside its range, or s > 10
     ∷ (4 when outside-range (S .X) || outside-range (S .Y) || ltb 10 (S .s))
+    -- mode is neither 0 nor 1 (check and point calls take none)
     ∷ (5 when if-given (c .mode) (λ m. ltb 1 m))
+    -- weight is 2^62 or more
     ∷ (6 when leb (2 ^ 62) (weight S))
+    -- raster or listing place has fewer than 4^k entries
     ∷ (7 when if-given (c .entries) (λ n. ltb n (4 ^ S .k)))
+    -- j > k, p or q not below 2^j; or the point is outside the closed square
     ∷ (8 when misplaced S (c .question))
-    ∷ (9 when if-given (c .entries) (λ n. if-given (c .mode) (λ m. ltb 65_535 (visited (verdict S (mode-of m)) (S .k)))))
+    -- visited above 65,535: asked of the calls that walk, which are those that lend a place
+    ∷ (9 when if-given (c .entries) (λ _. if-given (c .mode) (λ m. ltb 65_535 (visited (verdict S (mode-of m)) (S .k)))))
     ∷ []
 
 -- the number of the first row whose condition holds, 0 where none does

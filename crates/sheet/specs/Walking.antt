@@ -1,7 +1,7 @@
 -- Walking the sheet: colours and tallies, for any verdicts on the cells. Nothing here says how the walk goes.
 use mathlib.Core.Bool.{Bool, true, false, _&&_, cond}
 use mathlib.Core.List.{List, [], _∷_, map}
-use Prim.Native.Nat.{ℕ, _+_, _*_, _-_, _/_, _%_, _^_}
+use Prim.Native.Nat.{ℕ, _-_, _/_, _%_, _^_}
 use lib.Dec.{eqb}
 use Rattle.algebra.specs.Sum.{sumℕ, span, _⋯_}
 use Rattle.local.specs.declared.Verdict.{Verdict}

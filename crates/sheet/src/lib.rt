@@ -1,14 +1,13 @@
 // The calls that walk nothing: check a sheet, value F at a point, bounds and bend of a cell.
-use local::Form;
-use local::Verdict;
+pub use local::Verdict;
 
 mod cell;
 mod refusals;
 mod scale;
 
+ghost use Rattle.sheet.specs.Sheet.{sheet-of};
 ghost use mathlib.Core.Path.{_≡_};
-ghost use Rattle.sheet.specs.Answers.{checked, valued, bounded};
-ghost use Rattle.sheet.specs.Steps.{sheet-of};
+ghost use Rattle.sheet.specs.Answers.{checked, states-weight, weighed, valued, states-value, evaluated, bounded, states-bounds, measured};
 
 // Weight and spare places, or a refusal.
 pub enum Checked {
@@ -30,7 +29,7 @@ pub enum Bounded {
 
 // Check a sheet.
 pub fn check(d: u32, coefficients: &[i32], x: i32, y: i32, s: u32, k: u32) -> Checked
-    ensures { λ r. ⌜ r ≡ checked (sheet-of d (now (coefficients .entry)) x y s k) ⌝ }
+    ensures { λ r. ⌜ (r ≡ checked (sheet-of d (now (coefficients .entry)) x y s k)) × (states-weight r ≡ weighed (sheet-of d (now (coefficients .entry)) x y s k)) ⌝ }
 {
     let refusal = refusals::range_refusal(d, coefficients, x, y, s, k);
     if refusal != 0 {
@@ -46,13 +45,14 @@ pub fn check(d: u32, coefficients: &[i32], x: i32, y: i32, s: u32, k: u32) -> Ch
 
 // Value F at a whole-number point (u, v) of the closed square.
 pub fn value(d: u32, coefficients: &[i32], x: i32, y: i32, s: u32, k: u32, u: i64, v: i64) -> Valued
-    ensures { λ r. ⌜ r ≡ valued (sheet-of d (now (coefficients .entry)) x y s k) u v ⌝ }
+    ensures { λ r. ⌜ (r ≡ valued (sheet-of d (now (coefficients .entry)) x y s k) u v) × (states-value r ≡ evaluated (sheet-of d (now (coefficients .entry)) x y s k) u v) ⌝ }
 {
     let refusal = refusals::point_refusal(d, coefficients, x, y, s, k, u, v);
     if refusal != 0 {
         return Valued::Refused(refusal);
     }
-    let form = scale::scaled_form(d, coefficients, x, y, s, k);
+    let form = scale::scaled_form(d, coefficients, k);
+    // F at (u, v) is G(0,0) of the form about it
     let there = local::local_form(form, u, v, 0);
     let z = local::centre_of(there);
     Valued::At(z)
@@ -71,13 +71,13 @@ pub fn bounds(
     p: u32,
     q: u32,
 ) -> Bounded
-    ensures { λ r. ⌜ r ≡ bounded (sheet-of d (now (coefficients .entry)) x y s k) mode j p q ⌝ }
+    ensures { λ r. ⌜ (r ≡ bounded (sheet-of d (now (coefficients .entry)) x y s k) mode j p q) × (states-bounds r ≡ measured (sheet-of d (now (coefficients .entry)) x y s k) mode j p q) ⌝ }
 {
     let refusal = refusals::cell_refusal(d, coefficients, x, y, s, k, mode, j, p, q);
     if refusal != 0 {
         return Bounded::Refused(refusal);
     }
-    let form = scale::scaled_form(d, coefficients, x, y, s, k);
+    let form = scale::scaled_form(d, coefficients, k);
     let h = cell::half_side(s, k, j);
     let u = cell::centre(x, k, p, h);
     let v = cell::centre(y, k, q, h);

@@ -3,11 +3,11 @@ ghost use mathlib.Core.Path.{_≡_};
 ghost use mathlib.Core.Bool.{Bool};
 ghost use Prim.Native.Nat.{_^_, _≤_, min};
 ghost use lib.IntN.{natAbs};
-ghost use Rattle.sheet.specs.Sheet.{InRange};
+ghost use Rattle.sheet.specs.Sheet.{sheet-of, InRange};
 ghost use Rattle.sheet.specs.Weight.{weight};
 ghost use Rattle.sheet.specs.Refusals.{outside-range, outside-side, refusal};
 ghost use Rattle.sheet.specs.Answers.{at-point, in-cell};
-ghost use Rattle.sheet.specs.Steps.{sheet-of, range-refusal};
+ghost use Rattle.sheet.specs.Steps.{range-refusal};
 
 // X or Y outside its range.
 fn beyond(z: i32) -> bool

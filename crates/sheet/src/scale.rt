@@ -5,8 +5,7 @@ ghost use Prim.Native.Nat.{_*_, _^_, _<_};
 ghost use lib.IntN.{pos, _*ℤ_, natAbs};
 ghost use lib.ListN.{length};
 ghost use Rattle.local.specs.Table.{Tabled};
-ghost use Rattle.sheet.specs.Weight.{Accepted};
-ghost use Rattle.sheet.specs.Steps.{sheet-of, scaled, RowFits, ScaledRow};
+ghost use Rattle.sheet.specs.Steps.{scaled-by, Scalable, RowFits, ScaledRow};
 
 // A times 2^n. Beside a zero coefficient the power need not fit.
 fn scaled_place(a: i32, n: u32) -> i64
@@ -16,7 +15,7 @@ fn scaled_place(a: i32, n: u32) -> i64
     if a == 0 {
         return 0;
     }
-    a as i64 * (1i64 << n)
+    numbers::product(numbers::wide(a), numbers::power(n))
 }
 
 // One row, n + 1 places from `first` on.
@@ -34,9 +33,9 @@ fn scaled_row(places: &mut [i64; 45], coefficients: &[i32], first: usize, n: u32
 }
 
 // All rows.
-pub fn scaled_form(d: u32, coefficients: &[i32], x: i32, y: i32, s: u32, k: u32) -> Form
-    requires { ⌜ Accepted (sheet-of d (now coefficients) x y s k) ⌝ }
-    ensures { λ r. ⌜ Tabled d (scaled (sheet-of d (now (coefficients .entry)) x y s k)) r ⌝ }
+pub fn scaled_form(d: u32, coefficients: &[i32], k: u32) -> Form
+    requires { ⌜ Scalable d (now coefficients) k ⌝ }
+    ensures { λ r. ⌜ Tabled d (scaled-by d (now (coefficients .entry)) k) r ⌝ }
 {
     let mut places = [0i64; 45];
     let mut first = 0;

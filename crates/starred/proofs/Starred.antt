@@ -1,5 +1,4 @@
 -- The starred table holds: computed from the definitions.
-use mathlib.Core.List.{List}
 use lib.Dec.{T}
 use lib.IntN.{pow, one}
 use Rattle.algebra.specs.Sum.{sum, sumℕ, run, span, _⋯_}
@@ -14,8 +13,9 @@ use Rattle.sheet.specs.Bounds.{lower, upper, bend}
 use Rattle.sheet.specs.Walking.{colour, raster, visited, coloured}
 use Rattle.sheet.specs.Weight.{weight}
 use Rattle.sheet.specs.Refusals.{table, first}
+use Rattle.sheet.specs.Answers.{checked, valued, bounded}
 use Rattle.starred.specs.Starred.{holds, starred, all-hold}
 
 pub starred-hold : T (all-hold starred)
-unfolding pow one sum sumℕ run span _⋯_ choose minℤ maxℤ row-start digits judged F G lower upper bend colour raster visited coloured weight table first holds starred all-hold
+unfolding pow one sum sumℕ run span _⋯_ choose minℤ maxℤ row-start digits judged F G lower upper bend colour raster visited coloured weight table first checked valued bounded holds starred all-hold
 starred-hold = tt

@@ -1,30 +1,31 @@
 -- Checked sheets: those with a star, as one table of sheets and the figures that the page gives of them.
-use mathlib.Core.Bool.{Bool, true, _&&_}
+use mathlib.Core.Bool.{Bool, true, _&&_, _||_}
 use mathlib.Core.List.{List, [], _∷_}
 use Prim.Native.Nat.{ℕ}
 use lib.Dec.{eqb}
 use lib.IntN.{ℤ, pos, negsuc}
-use lib.ListN.{replicate}
+use lib.ListN.{length, replicate}
 use lib.Signed.{leZ}
 use Rattle.sheet.specs.Sheet.{Sheet, mode-of}
-use Rattle.sheet.specs.Scaled.{F}
-use Rattle.sheet.specs.Bounds.{lower, upper, bend, verdict}
+use Rattle.sheet.specs.Bounds.{verdict}
 use Rattle.sheet.specs.Walking.{visited, coloured, raster}
-use Rattle.sheet.specs.Weight.{weight, spare}
-use Rattle.sheet.specs.Refusals.{refusal}
-use Rattle.sheet.specs.Answers.{to-check}
+use Rattle.sheet.specs.Answers.{checked, states-weight, valued, states-value, bounded, states-bounds}
 
--- ---- a figure of a sheet. The mode comes first; a cell is level, column, row
+-- ---- a figure of a sheet: what a call answers, or a count of the walk. The mode comes first; a cell is level, column, row
 pub data Figure : Type 0 where
+  -- the two bounds that `bounds` answers, and the bend
   bounds-are : ℕ → ℕ → ℕ → ℕ → ℤ → ℤ → Figure
-  bend-is : ℕ → ℕ → ℕ → ℕ → Figure
+  bend-is : ℕ → ℕ → ℕ → ℕ → ℕ → Figure
+  -- what `value` answers at a point
   value-is : ℤ → ℤ → ℤ → Figure
+  -- what `check` answers: weight and spare places, or a refusal
   weight-is : ℕ → Figure
   spare-is : ℕ → Figure
   check-refuses : ℕ → Figure
+  -- the tally, and the raster's bytes: how many, and each of them
   visited-are : ℕ → ℕ → Figure
   coloured-are : ℕ → ℕ → Figure
-  every-byte-is : ℕ → ℕ → Figure
+  bytes-are : ℕ → ℕ → ℕ → Figure
 
 abbrev pub eqZ : ℤ → ℤ → Bool
 eqZ a b = leZ a b && leZ b a
@@ -34,15 +35,15 @@ every [] n = true
 every (x ∷ xs) n = eqb x n && every xs n
 
 unfoldable pub holds : Sheet → Figure → Bool
-holds S (bounds-are m j p q l u) = eqZ (lower S (mode-of m) j p q) l && eqZ (upper S (mode-of m) j p q) u
-holds S (bend-is j p q n) = eqb (bend S j p q) n
-holds S (value-is u v z) = eqZ (F S u v) z
-holds S (weight-is n) = eqb (weight S) n
-holds S (spare-is n) = eqb (spare S) n
-holds S (check-refuses n) = eqb (refusal (to-check S)) n
+holds S (bounds-are m j p q l u) = let r = states-bounds (bounded S m j p q) in eqb (r .number) 0 && eqZ (r .lower) l && eqZ (r .upper) u
+holds S (bend-is m j p q n) = let r = states-bounds (bounded S m j p q) in eqb (r .number) 0 && eqb (r .bend) n
+holds S (value-is u v z) = let r = states-value (valued S u v) in eqb (r .number) 0 && eqZ (r .value) z
+holds S (weight-is n) = let r = states-weight (checked S) in eqb (r .number) 0 && eqb (r .weight) n
+holds S (spare-is n) = let r = states-weight (checked S) in eqb (r .number) 0 && eqb (r .spare) n
+holds S (check-refuses n) = let r = states-weight (checked S) in eqb (r .number) n && (eqb n 0 || (eqb (r .weight) 0 && eqb (r .spare) 0))
 holds S (visited-are m n) = eqb (visited (verdict S (mode-of m)) (S .k)) n
 holds S (coloured-are m n) = eqb (coloured (verdict S (mode-of m)) (S .k)) n
-holds S (every-byte-is m n) = every (raster (verdict S (mode-of m)) (S .k)) n
+holds S (bytes-are m count n) = eqb (length (raster (verdict S (mode-of m)) (S .k))) count && every (raster (verdict S (mode-of m)) (S .k)) n
 
 -- ---- the sheets, by degree, coefficients, corner (Y = X), side and depth
 abbrev sheet : ℕ → List ℤ → ℤ → ℕ → ℕ → Sheet
@@ -109,8 +110,8 @@ starred =
     ∷ (P4 has bounds-are 1 1 0 1 (negsuc 3) (pos 0))
     ∷ (P4 has coloured-are 0 4)
     ∷ (P4 has coloured-are 1 4)
-    ∷ (P4 has every-byte-is 0 1)
-    ∷ (P4 has every-byte-is 1 1)
+    ∷ (P4 has bytes-are 0 4 1)
+    ∷ (P4 has bytes-are 1 4 1)
     -- P6
     ∷ (P6 has bounds-are 0 0 0 0 (pos 0) (pos 0))
     ∷ (P6 has bounds-are 1 0 0 0 (pos 0) (pos 0))
@@ -121,15 +122,16 @@ starred =
     -- P7
     ∷ (P7 has visited-are 0 1)
     ∷ (P7 has visited-are 1 1)
-    ∷ (P7 has every-byte-is 0 3)
-    ∷ (P7 has every-byte-is 1 3)
+    ∷ (P7 has bytes-are 0 16_384 3)
+    ∷ (P7 has bytes-are 1 16_384 3)
     -- P8
     ∷ (P8 has bounds-are 0 0 0 0 (negsuc 3) (pos 4))
     ∷ (P8 has bounds-are 1 0 0 0 (negsuc 3) (pos 4))
     -- P9
     ∷ (P9 has bounds-are 0 0 0 0 (negsuc 0) (pos 4))
     ∷ (P9 has bounds-are 1 0 0 0 (negsuc 1) (pos 4))
-    ∷ (P9 has bend-is 0 0 0 1)
+    ∷ (P9 has bend-is 0 0 0 0 1)
+    ∷ (P9 has bend-is 1 0 0 0 1)
     ∷ (P9 has value-is (pos 0) (pos 0) (pos 0))
     ∷ (P9 has value-is (pos 2) (pos 0) (pos 4))
     ∷ (P9 has value-is (pos 0) (pos 2) (pos 0))

@@ -1,4 +1,5 @@
 // The weight of a sheet on the machine, with a ceiling.
+// An inner crate: what its functions require, every caller proves.
 ghost use mathlib.Core.Path.{_≡_};
 ghost use Prim.Native.Nat.{_+_, _*_, _-_, _/_, _^_, _≤_, _<_, min, max};
 ghost use lib.IntN.{pos, _+ℤ_, natAbs};
@@ -12,9 +13,10 @@ pub fn reach(z: i32, s: u32) -> u64
     requires { ⌜ s ≤ 10 ⌝ }
     ensures { λ r. ⌜ r ≡ max (natAbs z) (natAbs (z +ℤ pos (2 ^ s))) ⌝ }
 {
-    let corner = z as i64;
+    let corner = numbers::wide(z);
+    let other = numbers::sum(corner, numbers::power(s));
     let near = numbers::size(corner);
-    let far = numbers::size(corner + numbers::power_of_two(s) as i64);
+    let far = numbers::size(other);
     numbers::larger(near, far)
 }
 
@@ -24,7 +26,7 @@ fn size_at(coefficients: &[i32], n: usize) -> u64
     ensures { λ r. ⌜ (r ≡ natAbs (getD (now (coefficients .entry)) n (pos 0))) × (r ≤ 2 ^ 31) ⌝ }
 {
     let a = coefficients[n];
-    numbers::size(a as i64)
+    numbers::size(numbers::wide(a))
 }
 
 // one row: the sum of |A| r^j over the n + 1 coefficients from `first` on

@@ -3,8 +3,6 @@ use mir.Facts.{toZ-ofZ}
 use Rattle.numbers.proofs.Machine.{fits-left, fits-right, fits-sum}
 use Rattle.numbers.proofs.combine.Statement.{statement}
 use Rattle.numbers.proofs.combine.Tie as tie
-use Rattle.numbers.proofs.combine.Reads as reads
-use Rattle.numbers.proofs.combine.Lts as lts
 
 mul-result : tie.Need-mul-result
 mul-result c = let a = c .args in rw (toZ-ofZ (c .fits .x), toZ-ofZ (c .fits .u)) (fits-left (a .x) (a .u) (a .y) (a .h) (c .pre))

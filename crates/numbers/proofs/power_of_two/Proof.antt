@@ -3,8 +3,6 @@ use native.Mathlib.Omega.{arith}
 use Rattle.numbers.proofs.Ceiling.{power-above, power-below}
 use Rattle.numbers.proofs.power_of_two.Statement.{statement}
 use Rattle.numbers.proofs.power_of_two.Tie as tie
-use Rattle.numbers.proofs.power_of_two.Reads as reads
-use Rattle.numbers.proofs.power_of_two.Lts as lts
 
 shl-result : tie.Need-shl-result
 shl-result c = omega arith

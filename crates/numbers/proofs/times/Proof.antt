@@ -5,8 +5,6 @@ use native.Mathlib.Omega.{arith}
 use Rattle.numbers.proofs.Ceiling.{product-below, product-above}
 use Rattle.numbers.proofs.times.Statement.{statement}
 use Rattle.numbers.proofs.times.Tie as tie
-use Rattle.numbers.proofs.times.Reads as reads
-use Rattle.numbers.proofs.times.Lts as lts
 
 returns : tie.Need-returns
 returns c = let a = c .before .args .a in rw (c .if1 .taken, Nat.mul-zero a)

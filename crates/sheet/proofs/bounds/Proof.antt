@@ -1,24 +1,25 @@
 -- `sheet::bounds` meets its contract: the scaled coefficients moved about the cell's centre are its local form, and the range of that is the cell's.
 use mathlib.Core.Path.{_≡_, sym, _∙_, ap}
 use Prim.Native.Nat.{_≤_}
-use native.Mathlib.Omega.{arith}
 use borrow.Author.Needs.{needs}
 use lib.IntN.{pos}
 use mir.Syntax.{w64}
 use mir.Val.{toZ, ofZ}
 use mir.Facts.{toZ-ofZ}
-use Rattle.local.specs.Table.{held, moved, Tabled}
+use Rattle.forms.specs.Plane.{moved}
+use Rattle.local.specs.Table.{held, Tabled}
 use Rattle.numbers.proofs.Machine.{read64}
 use Rattle.sheet.specs.declared.Bounded.the-variants.{Cell, Refused}
-use Rattle.sheet.specs.Sheet.{Sheet, mode-of}
-use Rattle.sheet.specs.Scaled.{IsCell, half-side, U0, V0}
+use Rattle.sheet.specs.Sheet.{Sheet, sheet-of, mode-of}
+use Rattle.sheet.specs.Scaled.{scaled, IsCell, half-side, U0, V0}
 use Rattle.sheet.specs.Bounds.{bend, verdict}
 use Rattle.sheet.specs.Weight.{Accepted}
 use Rattle.sheet.specs.Refusals.{refusal}
 use Rattle.sheet.specs.Answers.{in-cell, bounded}
-use Rattle.sheet.specs.Steps.{sheet-of, scaled}
+use Rattle.sheet.proofs.Promises.{bounds-kept}
 use Rattle.sheet.proofs.Rows.{cell-passed, unless-refused, unless-none}
 use Rattle.sheet.proofs.Cells.{limit-u, limit-v, column-small, row-small, half-side-small}
+use Rattle.sheet.proofs.Scaling.{scalable}
 use Rattle.sheet.proofs.Forms.{movable, local-light, local-verdict, local-bend}
 use Rattle.sheet.proofs.bounds.Statement.{statement}
 use Rattle.sheet.proofs.bounds.Tie as tie
@@ -37,7 +38,7 @@ passed c = let s = c .before .before in cell-passed (sheet s) (s .args .mode) (s
 
 -- ---- what each value is
 scaled-is : (c : tie.After-scaled-form) → let s = c .before .before .before in Tabled (s .args .d) (scaled (sheet s)) (c .scaled-form .result)
-scaled-is c = let s = c .before .before .before in rw (toZ-ofZ (s .fits .x), toZ-ofZ (s .fits .y)) at (c .scaled-form .ensures)
+scaled-is c = c .scaled-form .ensures
 
 half-side-is : (c : tie.After-half-side) → let s = c .before .before .before .before in toZ w64 (ofZ w64 (c .half-side .result)) ≡ pos (half-side (sheet s) (s .args .j))
 half-side-is c = read64 (c .half-side .result) (c .half-side .ok) ∙ c .half-side .ensures
@@ -60,10 +61,11 @@ returns : tie.Need-returns
 unfolding bounded
 returns c =
     let s = c .before .before in let e = refusal-is (c .before) in
-    ap Refused e ∙ unless-refused Refused (Cell (verdict (sheet s) (mode-of (s .args .mode)) (s .args .j) (s .args .p) (s .args .q)) (bend (sheet s) (s .args .j) (s .args .p) (s .args .q))) (refusal (in-cell (sheet s) (s .args .mode) (s .args .j) (s .args .p) (s .args .q))) (λ z. c .if1 .taken (e ∙ z))
+    bounds-kept (sheet s) (s .args .mode) (s .args .j) (s .args .p) (s .args .q)
+    (ap Refused e ∙ unless-refused Refused (Cell (verdict (sheet s) (mode-of (s .args .mode)) (s .args .j) (s .args .p) (s .args .q)) (bend (sheet s) (s .args .j) (s .args .p) (s .args .q))) (refusal (in-cell (sheet s) (s .args .mode) (s .args .j) (s .args .p) (s .args .q))) (λ z. c .if1 .taken (e ∙ z)))
 
 scaled-form-requires : tie.Need-scaled-form-requires
-scaled-form-requires c κs = let s = c .before .before in rw (toZ-ofZ (s .fits .x), toZ-ofZ (s .fits .y)) (passed c .0)
+scaled-form-requires c κs = scalable (passed c .0)
 
 half-side-requires : tie.Need-half-side-requires
 half-side-requires c κs = let h = passed (c .before) in (h .0 .ranges .side, h .0 .ranges .depth, h .2 .level)
@@ -91,8 +93,9 @@ returns-2 : tie.Need-returns-2
 unfolding bounded
 returns-2 c =
     let s = c .before .before .before .before .before .before .before .before in let h = passed (c .before .before .before .before .before .before) in
-    rw (local-verdict (h .0) (scaled-is (c .before .before .before .before .before)) (s .args .j) (s .args .p) (s .args .q) (moved-is (c .before)) (mode-of (s .args .mode)) (c .local-range .ensures), local-bend (h .0) (scaled-is (c .before .before .before .before .before)) (s .args .j) (s .args .p) (s .args .q) (moved-is (c .before)) (c .local-range .ensures))
-    (unless-none Refused (Cell (verdict (sheet s) (mode-of (s .args .mode)) (s .args .j) (s .args .p) (s .args .q)) (bend (sheet s) (s .args .j) (s .args .p) (s .args .q))) (refusal (in-cell (sheet s) (s .args .mode) (s .args .j) (s .args .p) (s .args .q))) (sym (refusal-is (c .before .before .before .before .before .before .before)) ∙ c .before .before .before .before .before .before .if1 .left))
+    bounds-kept (sheet s) (s .args .mode) (s .args .j) (s .args .p) (s .args .q)
+    (rw (local-verdict (h .0) (scaled-is (c .before .before .before .before .before)) (s .args .j) (s .args .p) (s .args .q) (moved-is (c .before)) (mode-of (s .args .mode)) (c .local-range .ensures), local-bend (h .0) (scaled-is (c .before .before .before .before .before)) (s .args .j) (s .args .p) (s .args .q) (moved-is (c .before)) (c .local-range .ensures))
+    (unless-none Refused (Cell (verdict (sheet s) (mode-of (s .args .mode)) (s .args .j) (s .args .p) (s .args .q)) (bend (sheet s) (s .args .j) (s .args .p) (s .args .q))) (refusal (in-cell (sheet s) (s .args .mode) (s .args .j) (s .args .p) (s .args .q))) (sym (refusal-is (c .before .before .before .before .before .before .before)) ∙ c .before .before .before .before .before .before .if1 .left)))
 
 pub bounds-spec : {M : Type 1} → statement M
 bounds-spec =

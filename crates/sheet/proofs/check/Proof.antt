@@ -9,12 +9,13 @@ use lib.Dec.{leb}
 use mir.Facts.{toZ-ofZ}
 use Rattle.algebra.specs.Digits.{digits}
 use Rattle.sheet.specs.declared.Checked.the-variants.{Accepted, Refused}
-use Rattle.sheet.specs.Sheet.{Sheet, InRange}
+use Rattle.sheet.specs.Sheet.{Sheet, sheet-of, InRange}
 use Rattle.sheet.specs.Weight.{weight, spare}
 use Rattle.sheet.specs.Refusals.{refusal}
 use Rattle.sheet.specs.Answers.{to-check, checked}
-use Rattle.sheet.specs.Steps.{sheet-of, range-refusal}
-use Rattle.sheet.proofs.Rows.{or-else, check-rows, range-passed, heavy, not-heavy, stays, rest, unless-refused, unless-none}
+use Rattle.sheet.specs.Steps.{range-refusal}
+use Rattle.sheet.proofs.Promises.{check-kept}
+use Rattle.sheet.proofs.Rows.{check-rows, range-passed, heavy, not-heavy, stays, rest, unless-refused, unless-none}
 use Rattle.sheet.proofs.check.Statement.{statement}
 use Rattle.sheet.proofs.check.Tie as tie
 
@@ -44,7 +45,8 @@ returns : tie.Need-returns
 unfolding checked
 returns c =
     let s = c .before .before in let e = range-is (c .before) ∙ stays (range-refusal (sheet s)) _ (λ z. c .if1 .taken (range-is (c .before) ∙ z)) ∙ sym (check-rows (sheet s)) in
-    ap Refused e ∙ unless-refused Refused (Accepted (weight (sheet s)) (spare (sheet s))) (refusal (to-check (sheet s))) (λ z. c .if1 .taken (e ∙ z))
+    check-kept (sheet s)
+    (ap Refused e ∙ unless-refused Refused (Accepted (weight (sheet s)) (spare (sheet s))) (refusal (to-check (sheet s))) (λ z. c .if1 .taken (e ∙ z)))
 
 sheet-weight-requires : tie.Need-sheet-weight-requires
 sheet-weight-requires c κs = let s = c .before .before in rw (toZ-ofZ (s .fits .x), toZ-ofZ (s .fits .y)) (in-range c)
@@ -53,7 +55,8 @@ returns-2 : tie.Need-returns-2
 unfolding checked
 returns-2 c =
     let s = c .before .before .before .before in let e : 6 ≡ refusal (to-check (sheet s)) = sym (after (c .before .before) ∙ rw (heavy (sheet s) (weight-is (c .before)) (c .if2 .taken))) in
-    ap Refused e ∙ unless-refused Refused (Accepted (weight (sheet s)) (spare (sheet s))) (refusal (to-check (sheet s))) (λ z. omega arith)
+    check-kept (sheet s)
+    (ap Refused e ∙ unless-refused Refused (Accepted (weight (sheet s)) (spare (sheet s))) (refusal (to-check (sheet s))) (λ z. omega arith))
 
 spare-places-requires : tie.Need-spare-places-requires
 spare-places-requires c κs = let w = weight-is (c .before) in let h = c .if2 .left in omega (arith, h)
@@ -65,7 +68,8 @@ returns-3 c =
     let l = not-heavy (sheet s) w (c .before .if2 .left) in
     let e : c .before .before .sheet-weight .result ≡ weight (sheet s) = let h = leb-false (2 ^ 62) (weight (sheet s)) l in omega arith in
     let n : c .spare-places .result ≡ spare (sheet s) = c .spare-places .ensures ∙ ap (λ x. 62 - digits x) e in
-    rw (e, n) (unless-none Refused (Accepted (weight (sheet s)) (spare (sheet s))) (refusal (to-check (sheet s))) (after (c .before .before .before) ∙ rw l))
+    check-kept (sheet s)
+    (rw (e, n) (unless-none Refused (Accepted (weight (sheet s)) (spare (sheet s))) (refusal (to-check (sheet s))) (after (c .before .before .before) ∙ rw l)))
 
 pub check-spec : {M : Type 1} → statement M
 check-spec = tie.close (tie.spec range-refusal-requires returns sheet-weight-requires returns-2 spare-places-requires returns-3)

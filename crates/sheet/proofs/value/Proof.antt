@@ -8,14 +8,15 @@ use mir.Facts.{toZ-ofZ}
 use Rattle.local.specs.Table.{Tabled}
 use Rattle.numbers.proofs.Machine.{read64}
 use Rattle.sheet.specs.declared.Valued.the-variants.{At, Refused}
-use Rattle.sheet.specs.Sheet.{Sheet}
-use Rattle.sheet.specs.Scaled.{F}
+use Rattle.sheet.specs.Sheet.{Sheet, sheet-of}
+use Rattle.sheet.specs.Scaled.{F, scaled}
 use Rattle.sheet.specs.Weight.{Accepted}
 use Rattle.sheet.specs.Refusals.{misplaced, point, refusal}
 use Rattle.sheet.specs.Answers.{at-point, valued}
-use Rattle.sheet.specs.Steps.{sheet-of, scaled}
+use Rattle.sheet.proofs.Promises.{value-kept}
 use Rattle.sheet.proofs.Rows.{point-passed, unless-refused, unless-none}
 use Rattle.sheet.proofs.Cells.{point-limit}
+use Rattle.sheet.proofs.Scaling.{scalable}
 use Rattle.sheet.proofs.Forms.{movable, value-first}
 use Rattle.sheet.proofs.value.Statement.{statement}
 use Rattle.sheet.proofs.value.Tie as tie
@@ -34,7 +35,7 @@ passed c = let s = c .before .before in point-passed (sheet s) (s .args .u) (s .
 
 -- the scaled coefficients
 scaled-is : (c : tie.After-scaled-form) → let s = c .before .before .before in Tabled (s .args .d) (scaled (sheet s)) (c .scaled-form .result)
-scaled-is c = let s = c .before .before .before in rw (toZ-ofZ (s .fits .x), toZ-ofZ (s .fits .y)) at (c .scaled-form .ensures)
+scaled-is c = c .scaled-form .ensures
 
 point-refusal-requires : tie.Need-point-refusal-requires
 point-refusal-requires c κs = search needs
@@ -43,10 +44,11 @@ returns : tie.Need-returns
 unfolding valued
 returns c =
     let s = c .before .before in let e = refusal-is (c .before) in
-    ap Refused e ∙ unless-refused Refused (At (F (sheet s) (s .args .u) (s .args .v))) (refusal (at-point (sheet s) (s .args .u) (s .args .v))) (λ z. c .if1 .taken (e ∙ z))
+    value-kept (sheet s) (s .args .u) (s .args .v)
+    (ap Refused e ∙ unless-refused Refused (At (F (sheet s) (s .args .u) (s .args .v))) (refusal (at-point (sheet s) (s .args .u) (s .args .v))) (λ z. c .if1 .taken (e ∙ z)))
 
 scaled-form-requires : tie.Need-scaled-form-requires
-scaled-form-requires c κs = let s = c .before .before in rw (toZ-ofZ (s .fits .x), toZ-ofZ (s .fits .y)) (passed c .0)
+scaled-form-requires c κs = scalable (passed c .0)
 
 local-form-requires : tie.Need-local-form-requires
 local-form-requires c κs =
@@ -62,7 +64,8 @@ returns-2 c =
     let s = c .before .before .before .before .before in let h = passed (c .before .before .before) in
     let w = rw (toZ-ofZ (s .fits .u), toZ-ofZ (s .fits .v)) at (c .before .local-form .ensures) in
     let e = read64 (c .centre-of .result) (c .centre-of .ok) ∙ c .centre-of .ensures ∙ value-first (h .0) (scaled-is (c .before .before)) (s .args .u) (s .args .v) w in
-    rw e (unless-none Refused (At (F (sheet s) (s .args .u) (s .args .v))) (refusal (at-point (sheet s) (s .args .u) (s .args .v))) (sym (refusal-is (c .before .before .before .before)) ∙ c .before .before .before .if1 .left))
+    value-kept (sheet s) (s .args .u) (s .args .v)
+    (rw e (unless-none Refused (At (F (sheet s) (s .args .u) (s .args .v))) (refusal (at-point (sheet s) (s .args .u) (s .args .v))) (sym (refusal-is (c .before .before .before .before)) ∙ c .before .before .before .if1 .left)))
 
 pub value-spec : {M : Type 1} → statement M
 value-spec =

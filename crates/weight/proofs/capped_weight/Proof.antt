@@ -6,11 +6,6 @@ use borrow.Author.Needs.{needs}
 use Rattle.algebra.proofs.Ceiling.{ceil-*}
 use Rattle.weight.proofs.capped_weight.Statement.{statement}
 use Rattle.weight.proofs.capped_weight.Tie as tie
-use Rattle.weight.proofs.capped_weight.Reads as reads
-use Rattle.weight.proofs.capped_weight.Lts as lts
-use Rattle.numbers.proofs.power_of_two.Reads as power-of-two-reads
-use Rattle.numbers.proofs.times.Reads as times-reads
-use Rattle.weight.proofs.sum_weight.Reads as sum-weight-reads
 
 power-of-two-requires : tie.Need-power-of-two-requires
 power-of-two-requires c κs = search needs

@@ -5,11 +5,6 @@ use Rattle.weight.specs.Series.{sizes}
 use Rattle.weight.proofs.Series.{Adding, adding-start, adding-next, adding-end}
 use Rattle.weight.proofs.row_weight.Statement.{statement}
 use Rattle.weight.proofs.row_weight.Tie as tie
-use Rattle.weight.proofs.row_weight.Reads as reads
-use Rattle.weight.proofs.row_weight.Lts as lts
-use Rattle.numbers.proofs.plus.Reads as plus-reads
-use Rattle.numbers.proofs.times.Reads as times-reads
-use Rattle.weight.proofs.size_at.Reads as size-at-reads
 
 abbrev Inv-loop : tie.InvT-loop
 Inv-loop coefficients first n r sum₀ power₀ j₀ sum power j = Adding (sizes coefficients first) r n sum power j

@@ -6,8 +6,6 @@ use Rattle.algebra.specs.Digits.{digits}
 use Rattle.algebra.proofs.Digits.{digits-spec, digits-leading}
 use Rattle.weight.proofs.spare_places.Statement.{statement}
 use Rattle.weight.proofs.spare_places.Tie as tie
-use Rattle.weight.proofs.spare_places.Reads as reads
-use Rattle.weight.proofs.spare_places.Lts as lts
 
 few : (w : ℕ) → w < 2 ^ 62 → digits w < 63
 few w h = Nat.lt-of-not-le (λ l. Nat.not-le-of-lt h (digits-spec w (omega arith) 62 .1 l))

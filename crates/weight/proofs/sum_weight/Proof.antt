@@ -5,11 +5,6 @@ use lib.ListN.{length}
 use Rattle.weight.proofs.Rows.{Rows, rows-start, rows-inside, rows-next, rows-end}
 use Rattle.weight.proofs.sum_weight.Statement.{statement}
 use Rattle.weight.proofs.sum_weight.Tie as tie
-use Rattle.weight.proofs.sum_weight.Reads as reads
-use Rattle.weight.proofs.sum_weight.Lts as lts
-use Rattle.numbers.proofs.plus.Reads as plus-reads
-use Rattle.numbers.proofs.times.Reads as times-reads
-use Rattle.weight.proofs.row_weight.Reads as row-weight-reads
 
 abbrev Inv-loop : tie.InvT-loop
 Inv-loop d coefficients r sum₀ scale₀ first₀ i₀ sum scale first i = Rows coefficients d r sum scale first i

@@ -1,57 +1,72 @@
--- `cell::centre` meets its contract: each of the four factors is what the machine reads, and the two products and their sum fit.
-use mathlib.Core.Path.{_∙_}
-use Prim.Native.Nat.{_+_}
+-- `sheet::cell::centre` meets its contract: each of the four factors is what the machine reads, and the two products and their sum fit.
+use mathlib.Core.Path.{_≡_, _∙_}
+use Prim.Native.Nat.{_+_, _*_, _^_, _≤_}
+use native.Mathlib.Nat as Nat
 use native.Mathlib.Omega.{arith}
 use borrow.Author.Needs.{needs}
+use lib.IntN.{pos, natAbs}
+use lib.Pow.{pow-mono}
+use mir.Syntax.{w64}
+use mir.Val.{toZ, ofZ}
 use mir.Facts.{toZ-ofZ}
+use Rattle.numbers.specs.Room.{Room}
 use Rattle.numbers.proofs.Machine.{read64}
-use Rattle.weight.proofs.Machine.{widened, wide}
-use Rattle.sheet.proofs.Shifts.{shift-one}
-use Rattle.sheet.proofs.Centres.{double-fits, odd-fits, odd, centre-room}
 use Rattle.sheet.proofs.cell.centre.Statement.{statement}
 use Rattle.sheet.proofs.cell.centre.Tie as tie
 
-add-combine : tie.Need-add-combine
-add-combine c = search needs
+-- ---- what each number is
+scale-is : (c : tie.After-power) → toZ w64 (ofZ w64 (c .power .result)) ≡ pos (2 ^ (c .before .args .k + 1))
+scale-is c = read64 (c .power .result) (c .power .ok) ∙ c .power .ensures
 
-cast-combine : tie.Need-cast-combine
-cast-combine c = search needs
+corner-is : (c : tie.After-wide) → toZ w64 (ofZ w64 (c .wide .result)) ≡ c .before .before .args .z
+corner-is c = read64 (c .wide .result) (c .wide .ok) ∙ c .wide .ensures .0 ∙ toZ-ofZ (c .before .before .fits .z)
 
-shl-combine : tie.Need-shl-combine
-shl-combine c = search needs
+odd-is : (c : tie.After-whole) → toZ w64 (ofZ w64 (c .whole .result)) ≡ pos (2 * c .before .before .before .args .p + 1)
+odd-is c = read64 (c .whole .result) (c .whole .ok) ∙ c .whole .ensures
 
-cast-combine-2 : tie.Need-cast-combine-2
-cast-combine-2 c = widened (c .args .z) (c .fits .z)
+-- ---- 2^8 · 2^20 and 2^8 · 2^17 leave room
+room : (c : tie.Start) → let a = c .args in Room (pos (2 ^ (a .k + 1))) (a .z) (pos (2 * a .p + 1)) (a .h)
+room c =
+    let a = c .args in let i : a .k + 1 ≤ 8 = omega arith in
+    let m = Nat.mul-le-mul {n₁ = 2 ^ (a .k + 1)} {m₁ = natAbs (a .z)} {n₂ = 2 ^ 8} {m₂ = 1_048_576} (pow-mono i) (c .pre .0) in
+    let n = Nat.mul-le-mul {n₁ = 2 * a .p + 1} {m₁ = natAbs (a .h)} {n₂ = 255} {m₂ = 2 ^ 17} (omega arith) (c .pre .3) in omega arith
 
-cast-combine-3 : tie.Need-cast-combine-3
-cast-combine-3 c = search needs
+add-power : tie.Need-add-power
+add-power c = search needs
 
-mul-combine : tie.Need-mul-combine
-mul-combine c = double-fits (c .args .p) (c .pre .2)
+power-requires : tie.Need-power-requires
+power-requires c κs = omega arith
 
-add-combine-2 : tie.Need-add-combine-2
-add-combine-2 c = odd-fits (c .args .p) (c .pre .2)
+wide-requires : tie.Need-wide-requires
+wide-requires c κs = search needs
+
+mul-whole : tie.Need-mul-whole
+mul-whole c = omega arith
+
+add-whole : tie.Need-add-whole
+add-whole c = omega arith
+
+whole-requires : tie.Need-whole-requires
+whole-requires c κs = search needs
 
 combine-requires : tie.Need-combine-requires
 combine-requires c κs =
-    let a = c .args in let f = c .fits in let p = c .pre in
-    rw (shift-one (a .k + 1) (omega arith), wide (a .z) (f .z), odd (a .p) (p .2), toZ-ofZ (f .h)) (centre-room (a .z) (a .k) (a .p) (a .h) (p .0) (p .1) (p .2) (p .3))
+    let s = c .before .before .before in rw (scale-is (c .before .before), corner-is (c .before), odd-is c, toZ-ofZ (s .fits .h)) (room s)
 
 returns : tie.Need-returns
 returns c =
-    let a = c .before .args in let f = c .before .fits in let p = c .before .pre in
-    read64 (c .combine .result) (c .combine .ok) ∙ (rw (shift-one (a .k + 1) (omega arith), wide (a .z) (f .z), odd (a .p) (p .2), toZ-ofZ (f .h)) at (c .combine .ensures))
+    let s = c .before .before .before .before in
+    read64 (c .combine .result) (c .combine .ok) ∙ (rw (scale-is (c .before .before .before), corner-is (c .before .before), odd-is (c .before), toZ-ofZ (s .fits .h)) at (c .combine .ensures))
 
 pub centre-spec : {M : Type 1} → statement M
 centre-spec =
     tie.close
     (tie.spec
-    add-combine
-    cast-combine
-    shl-combine
-    cast-combine-2
-    cast-combine-3
-    mul-combine
-    add-combine-2
+    add-power
+    power-requires
+    wide-requires
+    mul-whole
+    add-whole
+    whole-requires
     combine-requires
     returns)

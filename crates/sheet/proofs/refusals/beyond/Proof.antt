@@ -3,7 +3,6 @@ use mathlib.Core.Path.{_≡_, sym, _∙_, ap}
 use native.Mathlib.Omega.{arith}
 use borrow.Author.Needs.{needs}
 use lib.Dec.{ltb}
-use lib.Signed.{natAbs-le}
 use mir.Syntax.{w64}
 use mir.Val.{toZ, ofZ}
 use mir.Facts.{toZ-ofZ}
@@ -13,13 +12,13 @@ use Rattle.sheet.proofs.refusals.beyond.Statement.{statement}
 use Rattle.sheet.proofs.refusals.beyond.Tie as tie
 
 wide-is : (c : tie.After-wide) → toZ w64 (ofZ w64 (c .wide .result)) ≡ c .before .args .z
-wide-is c = read64 (c .wide .result) (c .wide .ok) ∙ c .wide .ensures ∙ toZ-ofZ (c .before .fits .z)
+wide-is c = read64 (c .wide .result) (c .wide .ok) ∙ c .wide .ensures .0 ∙ toZ-ofZ (c .before .fits .z)
 
 wide-requires : tie.Need-wide-requires
 wide-requires c κs = search needs
 
 size-requires : tie.Need-size-requires
-size-requires c κs = rw (wide-is c) (let h = natAbs-le (c .before .args .z) (c .before .fits .z .sfits) in omega arith)
+size-requires c κs = rw (wide-is c) (let h = rw (toZ-ofZ (c .before .fits .z)) at (c .wide .ensures .1) in omega arith)
 
 returns : tie.Need-returns
 returns c = ap (ltb 1_048_576) (rw (wide-is (c .before)) at (c .size .ensures)) ∙ sym (outside-size (c .before .before .args .z))

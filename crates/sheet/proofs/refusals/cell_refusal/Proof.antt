@@ -1,7 +1,7 @@
 -- `sheet::refusals::cell_refusal` meets its contract: the rows 1 to 4, then 5, 6 and 8.
 use mathlib.Core.Path.{_≡_, sym, _∙_, ap}
 use mathlib.Core.Bool.{cond}
-use Prim.Native.Nat.{ℕ, _*_, _^_, _%_, _≤_, _<_, min}
+use Prim.Native.Nat.{_*_, _^_, _%_, _≤_, min}
 use native.Mathlib.Nat as Nat
 use native.Mathlib.Omega.{arith}
 use borrow.Author.Needs.{needs}
@@ -9,12 +9,12 @@ use borrow.Author.Tests.{lt-ltb, le-ltb, le-leb, lt-leb}
 use lib.Dec.{leb, ltb}
 use lib.Pow.{pow-mono}
 use mir.Facts.{toZ-ofZ}
-use Rattle.sheet.specs.Sheet.{Sheet, InRange}
+use Rattle.sheet.specs.Sheet.{Sheet, sheet-of, InRange}
 use Rattle.sheet.specs.Weight.{weight}
 use Rattle.sheet.specs.Refusals.{misplaced, cell, refusal}
 use Rattle.sheet.specs.Answers.{in-cell}
-use Rattle.sheet.specs.Steps.{sheet-of, range-refusal}
-use Rattle.sheet.proofs.Rows.{or-else, cell-rows, range-passed, heavy, not-heavy, stays, rest}
+use Rattle.sheet.specs.Steps.{range-refusal}
+use Rattle.sheet.proofs.Rows.{cell-rows, range-passed, heavy, not-heavy, stays, rest}
 use Rattle.sheet.proofs.refusals.cell_refusal.Statement.{statement}
 use Rattle.sheet.proofs.refusals.cell_refusal.Tie as tie
 

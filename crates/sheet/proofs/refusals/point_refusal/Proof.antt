@@ -1,17 +1,16 @@
 -- `sheet::refusals::point_refusal` meets its contract: the rows 1 to 4, then 6 and 8.
-use mathlib.Core.Path.{_≡_, sym, _∙_, ap}
+use mathlib.Core.Path.{_≡_, sym, _∙_}
 use mathlib.Core.Bool.{cond}
-use Prim.Native.Nat.{ℕ, _^_, _≤_, min}
-use native.Mathlib.Omega.{arith}
+use Prim.Native.Nat.{_^_, min}
 use borrow.Author.Needs.{needs}
 use lib.Dec.{leb}
 use mir.Facts.{toZ-ofZ}
-use Rattle.sheet.specs.Sheet.{Sheet, InRange}
+use Rattle.sheet.specs.Sheet.{Sheet, sheet-of, InRange}
 use Rattle.sheet.specs.Weight.{weight}
 use Rattle.sheet.specs.Refusals.{misplaced, point, refusal}
 use Rattle.sheet.specs.Answers.{at-point}
-use Rattle.sheet.specs.Steps.{sheet-of, range-refusal}
-use Rattle.sheet.proofs.Rows.{or-else, point-rows, range-passed, heavy, not-heavy, stays, rest}
+use Rattle.sheet.specs.Steps.{range-refusal}
+use Rattle.sheet.proofs.Rows.{point-rows, range-passed, heavy, not-heavy, stays, rest}
 use Rattle.sheet.proofs.refusals.point_refusal.Statement.{statement}
 use Rattle.sheet.proofs.refusals.point_refusal.Tie as tie
 

@@ -1,14 +1,11 @@
 -- `sheet::refusals::range_refusal` meets its contract: the rows 1 to 4, one after the other.
-use mathlib.Core.Path.{_≡_, sym, _∙_}
-use mathlib.Core.Bool.{Bool}
-use mathlib.Core.List.{List}
+use mathlib.Core.Path.{sym, _∙_}
 use Prim.Native.Nat.{_+_}
 use native.Mathlib.Nat as Nat
 use native.Mathlib.Omega.{arith}
 use borrow.Author.Needs.{needs}
 use mir.Facts.{toZ-ofZ}
-use Rattle.sheet.specs.Sheet.{Sheet}
-use Rattle.sheet.specs.Steps.{sheet-of}
+use Rattle.sheet.specs.Sheet.{Sheet, sheet-of}
 use Rattle.sheet.proofs.Rows.{range-1, range-2, range-3, range-4-x, range-4-y, range-4-s, range-0}
 use Rattle.sheet.proofs.refusals.range_refusal.Statement.{statement}
 use Rattle.sheet.proofs.refusals.range_refusal.Tie as tie

@@ -1,17 +1,17 @@
 -- `sheet::refusals::sheet_weight` meets its contract: the weight with R, by its ceiling.
 use mathlib.Core.Path.{_≡_, _∙_, ap}
-use Prim.Native.Nat.{ℕ, _+_, _*_, _^_, _≤_, min, max}
+use Prim.Native.Nat.{_+_, _*_, _^_, _≤_, min}
 use native.Mathlib.Nat as Nat
 use native.Mathlib.Omega.{arith}
 use borrow.Author.Needs.{needs}
-use lib.IntN.{pos, _+ℤ_, natAbs}
+use lib.IntN.{pos, natAbs}
 use lib.Pow.{pow-mono}
 use mir.Facts.{toZ-ofZ}
 use Rattle.algebra.specs.Triangle.{place, triangle}
 use Rattle.algebra.proofs.Absolute.{natAbs-+ℤ}
 use Rattle.local.specs.Horner.{at}
+use Rattle.sheet.specs.Sheet.{sheet-of}
 use Rattle.sheet.specs.Weight.{R, weight}
-use Rattle.sheet.specs.Steps.{sheet-of}
 use Rattle.sheet.proofs.refusals.sheet_weight.Statement.{statement}
 use Rattle.sheet.proofs.refusals.sheet_weight.Tie as tie
 

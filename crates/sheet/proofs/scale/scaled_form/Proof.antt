@@ -2,27 +2,24 @@
 use mathlib.Core.Path.{refl}
 use Prim.Native.Nat.{_+_, _-_}
 use native.Mathlib.Omega.{arith}
-use mir.Syntax.{w32}
-use mir.Val.{toZ}
-use mir.Facts.{toZ-ofZ}
 use Rattle.local.proofs.Steps.{zeros}
-use Rattle.sheet.specs.Steps.{sheet-of, RowFits}
+use Rattle.sheet.specs.Steps.{RowFits}
 use Rattle.sheet.proofs.Scaling.{Filling, filling-start, filling-row, filling-next, filling-end}
 use Rattle.sheet.proofs.scale.scaled_form.Statement.{statement}
 use Rattle.sheet.proofs.scale.scaled_form.Tie as tie
 
 abbrev Inv-loop : tie.InvT-loop
-Inv-loop d coefficients x y s k places₀ first₀ i₀ places first i = Filling (sheet-of d coefficients (toZ w32 x) (toZ w32 y) s k) places first i
+Inv-loop d coefficients k places₀ first₀ i₀ places first i = Filling d coefficients k places first i
 
 abbrev μ-loop : tie.MeasureT-loop
-μ-loop d coefficients x y s k places₀ first₀ i₀ places first i = d + 1 - i
+μ-loop d coefficients k places₀ first₀ i₀ places first i = d + 1 - i
 
 loop-holds : tie.Need-loop-holds Inv-loop μ-loop
 loop-holds c = filling-start refl (zeros 45)
 
 -- each number of the row fits
 row : (c : tie.After-places Inv-loop μ-loop) → let s = c .before .before .before .args in let l = c .before .before .loop in RowFits (s .coefficients .now) (l .first) (s .d - l .i) (s .k)
-row c = let s = c .before .before .before in filling-row (s .pre) (omega arith) (rw (toZ-ofZ (s .fits .x), toZ-ofZ (s .fits .y)) at (c .before .before .loop .inv))
+row c = let s = c .before .before .before in filling-row (s .pre) (omega arith) (c .before .before .loop .inv)
 
 scaled-row-requires : tie.Need-scaled-row-requires Inv-loop μ-loop
 scaled-row-requires c κs = (c .before .before .loop .inv .long, row c)
@@ -49,7 +46,7 @@ loop-again : tie.Need-loop-again Inv-loop μ-loop
 loop-again c = filling-next (omega arith) (c .scaled-row .ensures) (c .before .before .before .loop .inv)
 
 returns : tie.Need-returns Inv-loop μ-loop
-returns c = let s = c .before .before in filling-end refl (omega arith) (rw (toZ-ofZ (s .fits .x), toZ-ofZ (s .fits .y)) at (c .before .loop .inv))
+returns c = let s = c .before .before in filling-end refl (omega arith) (c .before .loop .inv)
 
 pub scaled-form-spec : {M : Type 1} → statement M
 scaled-form-spec =

@@ -1,0 +1,67 @@
+-- The promises of the calls: what an answer states is the page's number and values, and no second outcome satisfies a promise.
+use mathlib.Core.Path.{_≡_, refl, sym, _∙_, ap}
+use mathlib.Core.Bool.{Bool, true, false, cond}
+use Prim.Native.Nat.{ℕ, zero, suc}
+use lib.IntN.{ℤ, pos}
+use lib.Signed.{ltZ}
+use Rattle.local.specs.declared.Verdict.the-variants.{Above, Below, Open}
+use Rattle.local.specs.Range.{judged}
+use Rattle.sheet.specs.declared.Checked.{Checked}
+use Rattle.sheet.specs.declared.Valued.{Valued}
+use Rattle.sheet.specs.declared.Bounded.{Bounded}
+use Rattle.sheet.specs.declared.Bounded.the-variants.{Cell}
+use Rattle.sheet.specs.Sheet.{Sheet, mode-of}
+use Rattle.sheet.specs.Bounds.{lower, upper, bend}
+use Rattle.sheet.specs.Refusals.{refusal}
+use Rattle.sheet.specs.Answers.{unless, checked, states-weight, weighed, to-check, valued, states-value, evaluated, at-point, bounded, states-bounds, measured, in-cell}
+use Rattle.sheet.specs.Promises.{CheckPromise, ValuePromise, BoundsPromise}
+
+-- a function of an answer is the answer of the function
+unless-ap : {X Y : Type 0} (f : X → Y) (n : ℕ) (r : ℕ → X) (v : X) → f (unless n r v) ≡ unless n (λ m. f (r m)) (f v)
+unless-ap f zero r v = refl
+unless-ap f (suc n) r v = refl
+
+-- ---- what each call's answer states
+pub check-states : (S : Sheet) → states-weight (checked S) ≡ weighed S
+unfolding checked weighed
+check-states S = unless-ap states-weight (refusal (to-check S)) _ _
+
+pub value-states : (S : Sheet) (u v : ℤ) → states-value (valued S u v) ≡ evaluated S u v
+unfolding valued evaluated
+value-states S u v = unless-ap states-value (refusal (at-point S u v)) _ _
+
+-- a verdict states both bounds, whichever it is
+verdict-states : (l u : ℤ) (n : ℕ) → states-bounds (Cell (judged l u) n) ≡ record { number = 0; lower = l; upper = u; bend = n }
+unfolding judged
+verdict-states l u n = go (ltZ (pos 0) l) (ltZ u (pos 0))
+  where
+    go : (s t : Bool) → states-bounds (Cell (cond s (Above l u) (cond t (Below l u) (Open l u))) n) ≡ record { number = 0; lower = l; upper = u; bend = n }
+    go true t = refl
+    go false true = refl
+    go false false = refl
+
+pub bounds-states : (S : Sheet) (mode j p q : ℕ) → states-bounds (bounded S mode j p q) ≡ measured S mode j p q
+unfolding bounded measured
+bounds-states S mode j p q =
+    unless-ap states-bounds (refusal (in-cell S mode j p q)) _ _
+    ∙ ap (λ x. unless (refusal (in-cell S mode j p q)) (λ n. record { number = n; lower = pos 0; upper = pos 0; bend = 0 }) x) (verdict-states (lower S (mode-of mode) j p q) (upper S (mode-of mode) j p q) (bend S j p q))
+
+-- ---- each promise is kept by the definition's answer
+pub check-kept : (S : Sheet) {r : Checked} → r ≡ checked S → CheckPromise S r
+check-kept S e = (e, ap states-weight e ∙ check-states S)
+
+pub value-kept : (S : Sheet) (u v : ℤ) {r : Valued} → r ≡ valued S u v → ValuePromise S u v r
+value-kept S u v e = (e, ap states-value e ∙ value-states S u v)
+
+pub bounds-kept : (S : Sheet) (mode j p q : ℕ) {r : Bounded} → r ≡ bounded S mode j p q → BoundsPromise S mode j p q r
+bounds-kept S mode j p q e = (e, ap states-bounds e ∙ bounds-states S mode j p q)
+
+-- ---- and by nothing else
+pub check-unique : (S : Sheet) (r t : Checked) → CheckPromise S r → CheckPromise S t → r ≡ t
+check-unique S r t p q = p .0 ∙ sym (q .0)
+
+pub value-unique : (S : Sheet) (u v : ℤ) (r t : Valued) → ValuePromise S u v r → ValuePromise S u v t → r ≡ t
+value-unique S u v r t p q = p .0 ∙ sym (q .0)
+
+pub bounds-unique : (S : Sheet) (mode j p q : ℕ) (r t : Bounded) → BoundsPromise S mode j p q r → BoundsPromise S mode j p q t → r ≡ t
+bounds-unique S mode j p q r t x y = x .0 ∙ sym (y .0)

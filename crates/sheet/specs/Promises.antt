@@ -1,0 +1,19 @@
+-- The promises of the public calls: the contracts' own text, as statements about an outcome r.
+use mathlib.Core.Path.{_≡_}
+use Prim.Native.Nat.{ℕ}
+use lib.IntN.{ℤ}
+use Rattle.sheet.specs.declared.Checked.{Checked}
+use Rattle.sheet.specs.declared.Valued.{Valued}
+use Rattle.sheet.specs.declared.Bounded.{Bounded}
+use Rattle.sheet.specs.Sheet.{Sheet}
+use Rattle.sheet.specs.Answers.{checked, states-weight, weighed, valued, states-value, evaluated, bounded, states-bounds, measured}
+
+-- the answer is that of the definition, and its case states the page's number and values
+abbrev pub CheckPromise : Sheet → Checked → Type 0
+CheckPromise S r = (r ≡ checked S) × (states-weight r ≡ weighed S)
+
+abbrev pub ValuePromise : Sheet → ℤ → ℤ → Valued → Type 0
+ValuePromise S u v r = (r ≡ valued S u v) × (states-value r ≡ evaluated S u v)
+
+abbrev pub BoundsPromise : Sheet → ℕ → ℕ → ℕ → ℕ → Bounded → Type 0
+BoundsPromise S mode j p q r = (r ≡ bounded S mode j p q) × (states-bounds r ≡ measured S mode j p q)
