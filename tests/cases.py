@@ -178,10 +178,17 @@ def limits():
                         yield Sheet(d, coefficients, X, Y, s, k)
 
 
+def walked():
+    """Every cell, up to level 2, of the sheets whose tallies the page prints."""
+    for _, sheet, mode, _ in second.TALLIES:
+        for j in range(min(sheet[-1], 2) + 1):
+            yield from (("bounds", sheet + (mode, j, p, q)) for p in range(2 ** j) for q in range(2 ** j))
+
+
 def all_cases(seed, count):
-    """The figures, the limits, and so many random cases."""
+    """The figures, the cells of the sheets that are walked, the limits, and so many random cases."""
     rng = random.Random(seed)
-    cases = [(call.__name__, wanted) for _, call, wanted, _ in second.FIGURES]
+    cases = [(call.__name__, wanted) for _, call, wanted, _ in second.FIGURES] + list(walked())
     for turn, sheet in enumerate(limits()):
         # five and three have no common factor, so each call meets each limit
         call = CALLS[turn // 5 % len(CALLS)]

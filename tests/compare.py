@@ -4,8 +4,8 @@
     python3 tests/compare.py --case CASE                one case again, as a disagreement prints it
 
 The program target/bin/compare is run once, on all cases of tests/cases.py; crates/compare/src says how a case and an answer are written
-in bytes. Every answer is compared with that of tests/second.py. A run in which some refusal, verdict, degree or depth never came up
-fails, too.
+in bytes. Every answer is compared with that of tests/second.py, and the tallies that the page prints are counted by walking through the
+program's verdicts. A run in which some refusal, verdict, degree or depth never came up fails, too.
 
 Then demand 3 is tried on the accepted cells, by the second program: at points with fractional coordinates in the closed cell, at its
 corners, and, where nothing bends, at the point where the value must be 0.
@@ -152,6 +152,15 @@ def tally(cases, expected):
     return [" ".join(map(str, thing)) for thing in wanted() if not found[thing]]
 
 
+def tallies(cases, answers):
+    """The page's tallies that a walk by the proved program's verdicts does not count."""
+    told = {shown(*case): answered for case, answered in zip(cases, answers)}
+    for name, sheet, mode, counted in second.TALLIES:
+        found = second.tally(lambda j, p, q: told[shown("bounds", sheet + (mode, j, p, q))][1], sheet[-1])
+        if found != counted:
+            yield f"{name}: a walk in mode {mode} counts {found}, and the page says {counted}"
+
+
 # ---- demand 3
 
 def within(rng, centre, H, Q):
@@ -201,7 +210,8 @@ def main():
     else:
         cases = all_cases(chosen.seed, chosen.cases)
     expected = [getattr(second, call)(*args) for call, args in cases]
-    wrong = disagreements(cases, run(chosen.program, cases), expected)
+    answers = run(chosen.program, cases)
+    wrong = disagreements(cases, answers, expected)
     cells = [(args, answered) for (call, args), answered in zip(cases, expected) if call == "bounds" and answered[0] == 0]
     rng = random.Random(chosen.seed)
     broken = [(args, fault) for args, answered in cells if (fault := demand_3(rng, args, answered))]
@@ -209,14 +219,17 @@ def main():
         print(f"demand 3 does not hold on --case '{shown('bounds', args)}': {fault}")
     if chosen.case:
         print(f"the second program: {expected[0]}")
-        missing = []
+        missing, miscounted = [], []
     else:
         missing = tally(cases, expected)
         for thing in missing:
             print(f"never came up: {thing}")
+        miscounted = list(tallies(cases, answers))
+        for fault in miscounted:
+            print(fault)
     print(f"compare: seed {chosen.seed}, {len(cases) - wrong} of {len(cases)} answers agree, "
           f"demand 3 holds on {len(cells) - len(broken)} of {len(cells)} cells")
-    return 1 if wrong or broken or missing else 0
+    return 1 if wrong or broken or missing or miscounted else 0
 
 
 if __name__ == "__main__":

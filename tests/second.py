@@ -164,6 +164,7 @@ def sheet(d, named, X, s, k):
 
 P1 = sheet(2, {(2, 0): 8, (0, 0): 1}, -1, 1, 1)
 P4 = sheet(1, {(1, 0): 1, (0, 1): -1}, 0, 0, 1)
+P5 = sheet(1, {(1, 0): 1, (0, 1): -1}, 0, 0, 2)
 P6 = sheet(0, {}, 0, 0, 0)
 P7 = sheet(0, {(0, 0): -5}, 0, 0, 7)
 P8 = sheet(2, {(1, 1): 1}, -1, 1, 0)
@@ -198,15 +199,40 @@ FIGURES = [
     *(("P12", check, sheet(8, {e: sign}, 0, 0, 7), (6, 0, 0)) for e in exponents(8) for sign in (1, -1)),
 ]
 
+# a sheet, a mode, and what a walk by the verdicts counts: visited and coloured
+TALLIES = [
+    ("P1", P1, 0, (1, 0)),
+    ("P3", P1, 1, (5, 4)),
+    *(("P4", P4, mode, (5, 4)) for mode in (0, 1)),
+    *(("P5", P5, mode, (21, 10)) for mode in (0, 1)),
+    *(("P7", P7, mode, (1, 0)) for mode in (0, 1)),
+]
+
+
+def tally(verdict, k, j=0, p=0, q=0):
+    """Visited and coloured from a cell on, by a function from level, column and row to a verdict."""
+    if verdict(j, p, q) != "open":
+        return 1, 0
+    if j == k:
+        return 1, 1
+    parts = [tally(verdict, k, j + 1, x, y) for y in (2 * q, 2 * q + 1) for x in (2 * p, 2 * p + 1)]
+    return 1 + sum(visited for visited, _ in parts), sum(coloured for _, coloured in parts)
+
 
 def main():
     wrong = 0
+    for name, given, mode, counted in TALLIES:
+        answer = tally(lambda j, p, q: bounds(*given, mode, j, p, q)[1], given[-1])
+        if answer != counted:
+            print(f"{name}: a walk in mode {mode} counts {answer}, and the page says {counted}")
+            wrong += 1
     for name, call, given, printed in FIGURES:
         answer = call(*given)
         if len(answer) != len(printed) or any(p is not None and p != a for a, p in zip(answer, printed)):
             print(f"{name}: {call.__name__}{given} answers {answer}, and the page says {printed}")
             wrong += 1
-    print(f"second program: {len(FIGURES) - wrong} of {len(FIGURES)} of the page's figures hold")
+    figures = len(FIGURES) + len(TALLIES)
+    print(f"second program: {figures - wrong} of {figures} of the page's figures hold")
     return 1 if wrong else 0
 
 
