@@ -189,8 +189,5 @@ def all_cases(seed, count):
     """The figures, the cells of the sheets that are walked, the limits, and so many random cases."""
     rng = random.Random(seed)
     cases = [(call.__name__, wanted) for _, call, wanted, _ in second.FIGURES] + list(walked())
-    for turn, sheet in enumerate(limits()):
-        # five and three have no common factor, so each call meets each limit
-        call = CALLS[turn // 5 % len(CALLS)]
-        cases.append((call, arguments(call, given(rng, sheet))))
+    cases += [(call, arguments(call, given(rng, sheet))) for sheet in limits() for call in CALLS]
     return cases + [random_case(rng, turn) for turn in range(count)]

@@ -55,17 +55,19 @@ def record(call, args):
 
 
 def answer(call, words):
-    """An answer, in the second program's form."""
-    kind, a, b, c, d = words
-    if kind == 1 and a != 0:
-        return (a, b, c, d, 0)[:LENGTHS[call]]
-    if kind != 0:
+    """An answer, in the second program's form. Words that the answer does not use are 0."""
+    kind, *values = words
+    if kind == 1 and values[0] != 0 and not any(values[1:]):
+        return (values[0],) + (0,) * (LENGTHS[call] - 1)
+    used = {"check": 2, "value": 1, "bounds": 4}[call]
+    if kind != 0 or any(values[used:]):
         return "no answer", *words
     if call == "check":
-        return 0, a, b
+        return 0, values[0], values[1]
     if call == "value":
-        return 0, number(a, 64)
-    return 0, VERDICTS.get(a), number(b, 64), number(c, 64), d
+        return 0, number(values[0], 64)
+    verdict, lower, upper, bend = values
+    return 0, VERDICTS.get(verdict), number(lower, 64), number(upper, 64), bend
 
 
 def command(program):
@@ -111,8 +113,9 @@ def met(call, args, answered):
     refusal, *values = answered
     d, coefficients, X, Y, s, k, *rest = args
     if refusal in (0, 6):
-        short = second.LIMIT - second.weight_of(d, coefficients, X, Y, s, k)
-        if short == 0 or refusal == 0 and short <= 2 ** ((k + 1) * d):
+        weight = second.weight_of(d, coefficients, X, Y, s, k)
+        short = second.LIMIT - weight
+        if short == 0 or refusal == 0 and weight > 0 and short <= 2 ** ((k + 1) * d):
             yield call, "weight at the limit" if short == 0 else "weight just below the limit"
     yield (call, "refused by", refusal) if refusal else (call, "accepted")
     if refusal:
@@ -156,7 +159,7 @@ def tallies(cases, answers):
     """The page's tallies that a walk by the proved program's verdicts does not count."""
     told = {shown(*case): answered for case, answered in zip(cases, answers)}
     for name, sheet, mode, counted in second.TALLIES:
-        found = second.tally(lambda j, p, q: told[shown("bounds", sheet + (mode, j, p, q))][1], sheet[-1])
+        found = second.tally(lambda j, p, q: told.get(shown("bounds", sheet + (mode, j, p, q)), (0, None))[1], sheet[-1])
         if found != counted:
             yield f"{name}: a walk in mode {mode} counts {found}, and the page says {counted}"
 

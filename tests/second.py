@@ -175,7 +175,7 @@ P11 = sheet(0, {(0, 0): 1}, 1_048_576, 0, 0)
 P11_REFUSED = sheet(0, {(0, 0): 1}, 1_048_577, 0, 0)
 P12 = sheet(8, {}, 0, 0, 7)
 
-# a call, what it is given, and the part of its answer that the page prints (None: not printed)
+# a call, what it is given, and the part of its answer that the page prints or that follows from it at once (None: neither)
 FIGURES = [
     ("P1", check, P1, (0, 144, 54)),
     ("P1", bounds, P1 + (0, 0, 0, 0), (0, "above", 16, 144, None)),
@@ -205,6 +205,7 @@ TALLIES = [
     ("P3", P1, 1, (5, 4)),
     *(("P4", P4, mode, (5, 4)) for mode in (0, 1)),
     *(("P5", P5, mode, (21, 10)) for mode in (0, 1)),
+    *(("P6", P6, mode, (1, 1)) for mode in (0, 1)),
     *(("P7", P7, mode, (1, 0)) for mode in (0, 1)),
 ]
 

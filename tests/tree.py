@@ -16,7 +16,7 @@ import sys
 ROOT = pathlib.Path(__file__).resolve().parent.parent
 LONGEST = 400
 CALLS = ("sheet",)
-CITED = re.compile(r"`(crates/[^`]+\.antt)`((?:,? `[^`]+`)+)")
+CITED = re.compile(r"`(crates/[^`]+\.antt)`((?:,?\s+`[^`/]+`)+)")
 PLACES = re.compile("/(?:" + "|".join(("opt", "home", "root", "work", "tmp", "usr")) + ")/")
 
 

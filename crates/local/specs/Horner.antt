@@ -1,4 +1,4 @@
--- Horner's rule on rows of coefficients: what the contracts of `combine`, `step` and `expand` say.
+-- Horner's rule on rows of coefficients: what the contracts of `step` and `expand` say.
 use mathlib.Core.Path.{_≡_}
 use mathlib.Core.List.{List}
 use Prim.Native.Nat.{ℕ, zero, suc, _+_, _*_, _^_, _≤_, _<_}

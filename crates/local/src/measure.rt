@@ -4,7 +4,7 @@ use crate::Range;
 use crate::Spread;
 use crate::Verdict;
 ghost use mathlib.Core.Path.{_≡_};
-ghost use Prim.Native.Nat.{_+_, _^_, _<_};
+ghost use Prim.Native.Nat.{_+_, _^_, _≤_, _<_};
 ghost use lib.IntN.{natAbs};
 ghost use lib.Dec.{leb};
 ghost use mathlib.Core.Bool.{cond};
@@ -101,7 +101,7 @@ fn row_spread(places: &[i64; 45], first: usize, mode: u32, a: usize, n: usize) -
     sum
 }
 
-// All rows.
+// The whole table: the spreads of its rows together.
 fn table_spread(form: Form, mode: u32) -> Spread
     requires { ⌜ Light form ⌝ }
     ensures { λ r. ⌜ r ≡ table-spread-of (form .degree) (mode-of mode) (held form) ⌝ }
@@ -136,7 +136,7 @@ fn judge(lower: i64, upper: i64) -> Verdict
     }
 }
 
-// The centre of a form.
+// G(0,0), the centre of a form's values.
 pub fn centre_of(form: Form) -> i64
     ensures { λ r. ⌜ r ≡ at (form .places) 0 ⌝ }
 {
@@ -145,7 +145,7 @@ pub fn centre_of(form: Form) -> i64
 
 // The verdict on a form, and its bend.
 pub fn local_range(form: Form, mode: u32) -> Range
-    requires { ⌜ Light form ⌝ }
+    requires { ⌜ (mode ≤ 1) × Light form ⌝ }
     ensures { λ r. ⌜ Ranged (form .degree) (mode-of mode) (held form) r ⌝ }
 {
     let whole = table_spread(form, mode);

@@ -1,4 +1,4 @@
--- Products and powers of two against a ceiling: what the tests of `times` and `power_of_two` settle.
+-- Products and powers of two against a ceiling: what the tests of `capped_product` and `capped_power` settle.
 use mathlib.Core.Path.{_≡_, sym, _∙_, ap}
 use Prim.Native.Nat.{ℕ, _*_, _^_, _/_, _%_, _≤_, _<_, min}
 use native.Mathlib.Nat as Nat

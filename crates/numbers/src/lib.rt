@@ -13,7 +13,7 @@ pub fn combine(x: i64, u: i64, y: i64, h: i64) -> i64
     x * u + y * h
 }
 
-// a + b and a b
+// a + b
 pub fn sum(a: i64, b: i64) -> i64
     requires { ⌜ natAbs a + natAbs b < 2 ^ 63 ⌝ }
     ensures { λ r. ⌜ r ≡ a +ℤ b ⌝ }
@@ -21,6 +21,7 @@ pub fn sum(a: i64, b: i64) -> i64
     a + b
 }
 
+// a b
 pub fn product(a: i64, b: i64) -> i64
     requires { ⌜ natAbs a * natAbs b < 2 ^ 63 ⌝ }
     ensures { λ r. ⌜ r ≡ a *ℤ b ⌝ }
@@ -47,7 +48,7 @@ pub fn larger(a: u64, b: u64) -> u64
 }
 
 // a + b, but not above the ceiling
-pub fn plus(a: u64, b: u64) -> u64
+pub fn capped_sum(a: u64, b: u64) -> u64
     requires { ⌜ (a ≤ 2 ^ 62) × (b ≤ 2 ^ 62) ⌝ }
     ensures { λ r. ⌜ r ≡ min (a + b) (2 ^ 62) ⌝ }
 {
@@ -55,7 +56,7 @@ pub fn plus(a: u64, b: u64) -> u64
 }
 
 // a b, but not above the ceiling
-pub fn times(a: u64, b: u64) -> u64
+pub fn capped_product(a: u64, b: u64) -> u64
     requires { ⌜ (a ≤ 2 ^ 62) × (b ≤ 2 ^ 62) ⌝ }
     ensures { λ r. ⌜ r ≡ min (a * b) (2 ^ 62) ⌝ }
 {
@@ -66,7 +67,7 @@ pub fn times(a: u64, b: u64) -> u64
 }
 
 // 2^n, but not above the ceiling
-pub fn power_of_two(n: u32) -> u64
+pub fn capped_power(n: u32) -> u64
     ensures { λ r. ⌜ r ≡ min (2 ^ n) (2 ^ 62) ⌝ }
 {
     if 62 < n { CEILING } else { 1u64 << n }

@@ -1,4 +1,4 @@
--- The definitions at the page's numbers, computed. The starred sheets stand whole in the crate `starred`; these are the figures that need no walk, and the edges of the refusal table.
+-- The definitions at the page's numbers, computed. The starred sheets stand whole in the crate `starred`; these are figures of single cells, small walks, and the edges of the refusal table.
 use mathlib.Core.Path.{_≡_, refl}
 use mathlib.Core.List.{List, [], _∷_}
 use Prim.Native.Nat.{ℕ}

@@ -1,4 +1,4 @@
--- Demand 3 for the cells of a sheet, as statements. That they hold is proofs/Cells and proofs/Demand3.
+-- Demand 3 for the cells of a sheet, as statements. That they hold is proofs/Demand3.
 use mathlib.Core.Path.{_≡_}
 use Prim.Native.Nat.{ℕ, _+_, _*_, _^_, _≤_, _<_}
 use lib.IntN.{ℤ, pos, _+ℤ_, _-ℤ_, _*ℤ_, natAbs}

@@ -1,4 +1,4 @@
--- What the page says of its definitions, as statements. That they hold is proofs/Facts.
+-- What the page says of its definitions, as statements. That they hold is proofs/Facts and proofs/Edges.
 use mathlib.Core.Path.{_≡_}
 use mathlib.Core.Bool.{true, false}
 use mathlib.Core.List.{List, _∷_, _++_, List·Memᴰ}

@@ -1,4 +1,4 @@
--- The local form of a cell: the table G(a,b), a + b at most d, with F(U0 + H·e, V0 + H·g) = sum of G(a,b)·e^a·g^b (specs/Demand3, `Expands`).
+-- The local form of a cell: the table G(a,b), a + b at most d, with F(U0 + H·e, V0 + H·g) = sum of G(a,b)·e^a·g^b (specs/Facts, `Expands`).
 use Prim.Native.Nat.{ℕ, _+_, _-_}
 use lib.IntN.{ℤ, pos, _*ℤ_, pow}
 use Rattle.algebra.specs.Sum.{sum, _⋯_}

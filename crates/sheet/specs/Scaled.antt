@@ -29,7 +29,7 @@ U0 S j p = pos (2 ^ (S .k + 1)) *ℤ S .X +ℤ pos ((2 * p + 1) * half-side S j)
 abbrev pub V0 : Sheet → ℕ → ℕ → ℤ
 V0 S j q = pos (2 ^ (S .k + 1)) *ℤ S .Y +ℤ pos ((2 * q + 1) * half-side S j)
 
--- ---- a point with fractional coordinates U = M/Q and V = N/Q. The page has Q at least 1; what is said of Q = 0 below holds too
+-- ---- a point with fractional coordinates U = M/Q and V = N/Q. The page has Q at least 1; where a statement asks for that it says so
 -- it lies in the cell when |M - Q·U0| and |N - Q·V0| are at most Q·H
 pub record InCell (S : Sheet) (j p q : ℕ) (M N : ℤ) (Q : ℕ) : Type 0 where
   pub across : natAbs (M -ℤ pos Q *ℤ U0 S j p) ≤ Q * half-side S j
@@ -39,7 +39,7 @@ pub record InCell (S : Sheet) (j p q : ℕ) (M N : ℤ) (Q : ℕ) : Type 0 where
 unfoldable pub value-at : Sheet → ℤ → ℤ → ℕ → ℤ
 value-at S M N Q = sum (0 ⋯ (S .d)) (λ i. sum (0 ⋯ (S .d - i)) (λ j. scaled S i j *ℤ pow M i *ℤ pow N j *ℤ pow (pos Q) (S .d - i - j)))
 
--- f at M/Q and N/Q, times Q^d: the sum of A(i,j) · M^i · N^j · Q^(d-i-j). That F(U, V) = 2^((k+1)d) · f(x, y) is proofs/Page
+-- f at M/Q and N/Q, times Q^d: the sum of A(i,j) · M^i · N^j · Q^(d-i-j). That F(U, V) = 2^((k+1)d) · f(x, y) is specs/Facts, `ScalesF`
 unfoldable pub f-at : Sheet → ℤ → ℤ → ℕ → ℤ
 f-at S M N Q = sum (0 ⋯ (S .d)) (λ i. sum (0 ⋯ (S .d - i)) (λ j. A S i j *ℤ pow M i *ℤ pow N j *ℤ pow (pos Q) (S .d - i - j)))
 

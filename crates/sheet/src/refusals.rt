@@ -125,11 +125,11 @@ pub fn cell_refusal(
     if k < j {
         return 8;
     }
-    let side = 1u32 << j;
-    if side <= p {
+    let columns = 1u32 << j;
+    if columns <= p {
         return 8;
     }
-    if side <= q {
+    if columns <= q {
         return 8;
     }
     0

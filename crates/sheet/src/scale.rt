@@ -32,7 +32,7 @@ fn scaled_row(places: &mut [i64; 45], coefficients: &[i32], first: usize, n: u32
     }
 }
 
-// All rows.
+// A(i,j) · 2^((k+1)(d-i-j)) at every place of a form.
 pub fn scaled_form(d: u32, coefficients: &[i32], k: u32) -> Form
     requires { ⌜ Scalable d (now coefficients) k ⌝ }
     ensures { λ r. ⌜ Tabled d (scaled-by d (now (coefficients .entry)) k) r ⌝ }

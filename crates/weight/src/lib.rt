@@ -38,9 +38,9 @@ fn row_weight(coefficients: &[i32], first: usize, n: usize, r: u64) -> u64
     let mut power = 1;
     let mut j = 0;
     while j <= n {
-        let term = numbers::times(size_at(coefficients, first + j), power);
-        sum = numbers::plus(sum, term);
-        power = numbers::times(power, r);
+        let term = numbers::capped_product(size_at(coefficients, first + j), power);
+        sum = numbers::capped_sum(sum, term);
+        power = numbers::capped_product(power, r);
         j += 1;
     }
     sum
@@ -56,9 +56,9 @@ fn sum_weight(d: usize, coefficients: &[i32], r: u64) -> u64
     let mut first = 0;
     let mut i = 0;
     while i <= d {
-        let row = numbers::times(row_weight(coefficients, first, d - i, r), scale);
-        sum = numbers::plus(sum, row);
-        scale = numbers::times(scale, r);
+        let row = numbers::capped_product(row_weight(coefficients, first, d - i, r), scale);
+        sum = numbers::capped_sum(sum, row);
+        scale = numbers::capped_product(scale, r);
         first += d + 1 - i;
         i += 1;
     }
@@ -70,13 +70,13 @@ pub fn capped_weight(d: u32, coefficients: &[i32], r: u64, n: u32) -> u64
     requires { ⌜ (d ≤ 8) × (length (now coefficients) ≡ (d + 1) * (d + 2) / 2) × (r ≤ 2 ^ 62) ⌝ }
     ensures { λ w. ⌜ w ≡ min (2 ^ n * triangle d (λ i j. natAbs (getD (now (coefficients .entry)) (place d i j) (pos 0)) * r ^ (i + j))) (2 ^ 62) ⌝ }
 {
-    numbers::times(
-        numbers::power_of_two(n),
+    numbers::capped_product(
+        numbers::capped_power(n),
         sum_weight(d as usize, coefficients, r),
     )
 }
 
-// 62 minus the count of binary digits, by the machine's own count of leading zeros
+// 62 minus the count of binary digits, by the machine's own count of leading zeros: 64 less the digits, of which the weight never uses 2
 pub fn spare_places(weight: u64) -> u32
     requires { ⌜ weight < 2 ^ 62 ⌝ }
     ensures { λ r. ⌜ r ≡ 62 - digits weight ⌝ }

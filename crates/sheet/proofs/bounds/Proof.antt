@@ -87,7 +87,7 @@ local-form-requires c κs =
     (movable (h .0) (scaled-is (c .before .before .before)) (U0 (sheet s) (s .args .j) (s .args .p)) (V0 (sheet s) (s .args .j) (s .args .q)) (pos (half-side (sheet s) (s .args .j))) (limit-u (sheet s) (s .args .j) (s .args .p) (s .args .q) (h .2)) (limit-v (sheet s) (s .args .j) (s .args .p) (s .args .q) (h .2)))
 
 local-range-requires : tie.Need-local-range-requires
-local-range-requires c κs = let s = c .before .before .before .before .before .before .before in let h = passed (c .before .before .before .before .before) in local-light (h .0) (scaled-is (c .before .before .before .before)) (s .args .j) (s .args .p) (s .args .q) (moved-is c) (h .2)
+local-range-requires c κs = let s = c .before .before .before .before .before .before .before in let h = passed (c .before .before .before .before .before) in (h .1, local-light (h .0) (scaled-is (c .before .before .before .before)) (s .args .j) (s .args .p) (s .args .q) (moved-is c) (h .2))
 
 returns-2 : tie.Need-returns-2
 unfolding bounded

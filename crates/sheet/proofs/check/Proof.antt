@@ -54,7 +54,7 @@ sheet-weight-requires c κs = let s = c .before .before in rw (toZ-ofZ (s .fits 
 returns-2 : tie.Need-returns-2
 unfolding checked
 returns-2 c =
-    let s = c .before .before .before .before in let e : 6 ≡ refusal (to-check (sheet s)) = sym (after (c .before .before) ∙ rw (heavy (sheet s) (weight-is (c .before)) (c .if2 .taken))) in
+    let s = c .before .before .before .before in let e : 6 ≡ refusal (to-check (sheet s)) = sym (after (c .before .before) ∙ rw (heavy (sheet s) (weight-is (c .before)) (let w = weight-is (c .before) in let t = c .if2 .taken in omega arith))) in
     check-kept (sheet s)
     (ap Refused e ∙ unless-refused Refused (Accepted (weight (sheet s)) (spare (sheet s))) (refusal (to-check (sheet s))) (λ z. omega arith))
 

@@ -52,8 +52,8 @@ scaled-form-requires c κs = scalable (passed c .0)
 
 local-form-requires : tie.Need-local-form-requires
 local-form-requires c κs =
-    let s = c .before .before .before in let h = passed (c .before) in let l = point-limit (sheet s) (s .args .u) (s .args .v) (h .1) in
-    rw (toZ-ofZ (s .fits .u), toZ-ofZ (s .fits .v)) (movable (h .0) (scaled-is c) (s .args .u) (s .args .v) (pos 0) (let x = l .0 in omega arith) (let y = l .1 in omega arith))
+    let s = c .before .before .before in let h = passed (c .before) in let l = point-limit (sheet s) (s .args .u) (s .args .v) (h .1) in let across = l .0 in let along = l .1 in
+    simp (toZ-ofZ (s .fits .u), toZ-ofZ (s .fits .v)) (movable (h .0) (scaled-is c) _ _ (pos 0) (omega arith) (omega arith))
 
 centre-of-requires : tie.Need-centre-of-requires
 centre-of-requires c κs = search needs

@@ -21,14 +21,14 @@ add-size-at c = omega arith
 size-at-requires : tie.Need-size-at-requires Inv-loop μ-loop
 size-at-requires c κs = omega arith
 
-times-requires : tie.Need-times-requires Inv-loop μ-loop
-times-requires c κs = omega arith
+capped-product-requires : tie.Need-capped-product-requires Inv-loop μ-loop
+capped-product-requires c κs = omega arith
 
-plus-requires : tie.Need-plus-requires Inv-loop μ-loop
-plus-requires c κs = omega arith
+capped-sum-requires : tie.Need-capped-sum-requires Inv-loop μ-loop
+capped-sum-requires c κs = omega arith
 
-times-requires-2 : tie.Need-times-requires-2 Inv-loop μ-loop
-times-requires-2 c κs = omega arith
+capped-product-requires-2 : tie.Need-capped-product-requires-2 Inv-loop μ-loop
+capped-product-requires-2 c κs = omega arith
 
 add-j : tie.Need-add-j Inv-loop μ-loop
 add-j c = omega arith
@@ -38,7 +38,7 @@ loop-less c = omega arith
 
 loop-again : tie.Need-loop-again Inv-loop μ-loop
 loop-again c =
-    adding-next (omega arith) (omega arith) (omega arith) (c .before .before .times .ensures) (omega arith) (omega arith) (c .before .before .before .before .before .loop .inv)
+    adding-next (omega arith) (omega arith) (omega arith) (c .before .before .capped-product .ensures) (omega arith) (omega arith) (c .before .before .before .before .before .loop .inv)
 
 returns : tie.Need-returns Inv-loop μ-loop
 returns c = adding-end (omega arith) (c .before .loop .inv)
@@ -52,9 +52,9 @@ row-weight-spec =
     loop-holds
     add-size-at
     size-at-requires
-    times-requires
-    plus-requires
-    times-requires-2
+    capped-product-requires
+    capped-sum-requires
+    capped-product-requires-2
     add-j
     loop-less
     loop-again

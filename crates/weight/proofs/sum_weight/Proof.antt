@@ -22,14 +22,14 @@ inside c = rows-inside (omega arith) (c .before .before .pre .1) (c .before .loo
 row-weight-requires : tie.Need-row-weight-requires Inv-loop μ-loop
 row-weight-requires c κs = (inside c, omega arith)
 
-times-requires : tie.Need-times-requires Inv-loop μ-loop
-times-requires c κs = omega arith
+capped-product-requires : tie.Need-capped-product-requires Inv-loop μ-loop
+capped-product-requires c κs = omega arith
 
-plus-requires : tie.Need-plus-requires Inv-loop μ-loop
-plus-requires c κs = omega arith
+capped-sum-requires : tie.Need-capped-sum-requires Inv-loop μ-loop
+capped-sum-requires c κs = omega arith
 
-times-requires-2 : tie.Need-times-requires-2 Inv-loop μ-loop
-times-requires-2 c κs = omega arith
+capped-product-requires-2 : tie.Need-capped-product-requires-2 Inv-loop μ-loop
+capped-product-requires-2 c κs = omega arith
 
 add-first : tie.Need-add-first Inv-loop μ-loop
 add-first c = omega arith
@@ -48,7 +48,7 @@ loop-less c = omega arith
 
 loop-again : tie.Need-loop-again Inv-loop μ-loop
 loop-again c =
-    rows-next (omega arith) (omega arith) (c .before .before .before .row-weight .ensures) (c .before .before .times .ensures) (omega arith) (omega arith) (c .before .before .before .before .before .loop .inv)
+    rows-next (omega arith) (omega arith) (c .before .before .before .row-weight .ensures) (c .before .before .capped-product .ensures) (omega arith) (omega arith) (c .before .before .before .before .before .loop .inv)
 
 returns : tie.Need-returns Inv-loop μ-loop
 returns c = rows-end (omega arith) (c .before .loop .inv)
@@ -61,9 +61,9 @@ sum-weight-spec =
     μ-loop
     loop-holds
     row-weight-requires
-    times-requires
-    plus-requires
-    times-requires-2
+    capped-product-requires
+    capped-sum-requires
+    capped-product-requires-2
     add-first
     sub-first
     add-first-2

@@ -1,53 +1,57 @@
 -- `local::measure::local_range` meets its contract: the bounds are the centre less the fall, and the centre and the rise.
-use mathlib.Core.Path.{ap}
+use mathlib.Core.Path.{_≡_, ap}
 use borrow.Author.Needs.{needs}
+use lib.IntN.{_+ℤ_, _-ℤ_}
+use mir.Syntax.{w64}
+use mir.Val.{toZ, ofZ}
 use mir.Facts.{toZ-ofZ}
 use Rattle.numbers.proofs.Machine.{read64}
-use Rattle.local.specs.Range.{mode-of}
+use Rattle.local.specs.Table.{held}
+use Rattle.local.specs.Range.{mode-of, lower-of, upper-of}
 use Rattle.local.proofs.Ranges.{read-fall, read-rise, fall-fits, rise-fits, lower-fits, upper-fits, lower-is, upper-is}
 use Rattle.local.proofs.measure.local_range.Statement.{statement}
 use Rattle.local.proofs.measure.local_range.Tie as tie
 
 table-spread-requires : tie.Need-table-spread-requires
-table-spread-requires c κs = c .pre
+table-spread-requires c κs = c .pre .1
 
 centre-of-requires : tie.Need-centre-of-requires
 centre-of-requires c κs = search needs
 
 cast-lower : tie.Need-cast-lower
-cast-lower c = let k = c .before in let s = k .before .before in fall-fits (s .pre) (mode-of (s .args .mode)) (k .before .table-spread .ensures) (k .centre-of .ensures)
+cast-lower c = let k = c .before in let s = k .before .before in fall-fits (s .pre .1) (mode-of (s .args .mode)) (k .before .table-spread .ensures) (k .centre-of .ensures)
 
 sub-lower : tie.Need-sub-lower
 sub-lower c =
     let k = c .before in let s = k .before .before in
-    rw (read64 (k .centre-of .result) (k .centre-of .ok), read-fall (s .pre) (mode-of (s .args .mode)) (k .before .table-spread .ensures) (k .centre-of .ensures)) (lower-fits (s .pre) (mode-of (s .args .mode)) (k .before .table-spread .ensures) (k .centre-of .ensures))
+    rw (read64 (k .centre-of .result) (k .centre-of .ok), read-fall (s .pre .1) (mode-of (s .args .mode)) (k .before .table-spread .ensures) (k .centre-of .ensures)) (lower-fits (s .pre .1) (mode-of (s .args .mode)) (k .before .table-spread .ensures) (k .centre-of .ensures))
 
 cast-upper : tie.Need-cast-upper
-cast-upper c = let k = c .before .before in let s = k .before .before in rise-fits (s .pre) (mode-of (s .args .mode)) (k .before .table-spread .ensures) (k .centre-of .ensures)
+cast-upper c = let k = c .before .before in let s = k .before .before in rise-fits (s .pre .1) (mode-of (s .args .mode)) (k .before .table-spread .ensures) (k .centre-of .ensures)
 
 add-upper : tie.Need-add-upper
 add-upper c =
     let k = c .before .before in let s = k .before .before in
-    rw (read64 (k .centre-of .result) (k .centre-of .ok), read-rise (s .pre) (mode-of (s .args .mode)) (k .before .table-spread .ensures) (k .centre-of .ensures)) (upper-fits (s .pre) (mode-of (s .args .mode)) (k .before .table-spread .ensures) (k .centre-of .ensures))
+    rw (read64 (k .centre-of .result) (k .centre-of .ok), read-rise (s .pre .1) (mode-of (s .args .mode)) (k .before .table-spread .ensures) (k .centre-of .ensures)) (upper-fits (s .pre .1) (mode-of (s .args .mode)) (k .before .table-spread .ensures) (k .centre-of .ensures))
 
 judge-requires : tie.Need-judge-requires
 judge-requires c κs = search needs
 
+-- ---- the two bounds, as the machine reads them
+lower-read : (k : tie.After-centre-of) →
+    let s = k .before .before in
+    toZ w64 (ofZ w64 (toZ w64 (ofZ w64 (k .centre-of .result)) -ℤ toZ w64 (k .before .table-spread .result .fall))) ≡ lower-of (s .args .form .degree) (mode-of (s .args .mode)) (held (s .args .form))
+lower-read k = let s = k .before .before in rw (read64 (k .centre-of .result) (k .centre-of .ok), read-fall (s .pre .1) (mode-of (s .args .mode)) (k .before .table-spread .ensures) (k .centre-of .ensures), toZ-ofZ (lower-fits (s .pre .1) (mode-of (s .args .mode)) (k .before .table-spread .ensures) (k .centre-of .ensures))) (lower-is (s .pre .1) (mode-of (s .args .mode)) (k .before .table-spread .ensures) (k .centre-of .ensures))
+
+upper-read : (k : tie.After-centre-of) →
+    let s = k .before .before in
+    toZ w64 (ofZ w64 (toZ w64 (ofZ w64 (k .centre-of .result)) +ℤ toZ w64 (k .before .table-spread .result .rise))) ≡ upper-of (s .args .form .degree) (mode-of (s .args .mode)) (held (s .args .form))
+upper-read k = let s = k .before .before in rw (read64 (k .centre-of .result) (k .centre-of .ok), read-rise (s .pre .1) (mode-of (s .args .mode)) (k .before .table-spread .ensures) (k .centre-of .ensures), toZ-ofZ (upper-fits (s .pre .1) (mode-of (s .args .mode)) (k .before .table-spread .ensures) (k .centre-of .ensures))) (upper-is (s .pre .1) (mode-of (s .args .mode)) (k .before .table-spread .ensures) (k .centre-of .ensures))
+
 returns : tie.Need-returns
 returns c =
-    let k = c .before .before .before in let s = k .before .before in
-    record {
-      verdict = rw (
-        read64 (k .centre-of .result) (k .centre-of .ok),
-        read-fall (s .pre) (mode-of (s .args .mode)) (k .before .table-spread .ensures) (k .centre-of .ensures),
-        read-rise (s .pre) (mode-of (s .args .mode)) (k .before .table-spread .ensures) (k .centre-of .ensures),
-        toZ-ofZ (lower-fits (s .pre) (mode-of (s .args .mode)) (k .before .table-spread .ensures) (k .centre-of .ensures)),
-        toZ-ofZ (upper-fits (s .pre) (mode-of (s .args .mode)) (k .before .table-spread .ensures) (k .centre-of .ensures)),
-        lower-is (s .pre) (mode-of (s .args .mode)) (k .before .table-spread .ensures) (k .centre-of .ensures),
-        upper-is (s .pre) (mode-of (s .args .mode)) (k .before .table-spread .ensures) (k .centre-of .ensures),
-      ) at (c .judge .ensures);
-      bend = ap (λ r. r .bend) (k .before .table-spread .ensures);
-    }
+    let k = c .before .before .before in
+    record { verdict = simp (lower-read k, upper-read k) at (c .judge .ensures); bend = ap (λ r. r .bend) (k .before .table-spread .ensures) }
 
 pub local-range-spec : {M : Type 1} → statement M
 local-range-spec =

@@ -75,8 +75,8 @@ returns-3 c =
 returns-4 : tie.Need-returns-4
 returns-4 c = let s = c .before .before .before .before .before .before in sym (light (c .before) ∙ rw (lt-ltb (s .args .k) (s .args .j) (c .if4 .taken)))
 
-shl-side : tie.Need-shl-side
-shl-side c = let h = level c in omega arith
+shl-columns : tie.Need-shl-columns
+shl-columns c = let h = level c in omega arith
 
 returns-5 : tie.Need-returns-5
 returns-5 c =
@@ -111,7 +111,7 @@ cell-refusal-spec =
     sheet-weight-requires
     returns-3
     returns-4
-    shl-side
+    shl-columns
     returns-5
     returns-6
     returns-7)

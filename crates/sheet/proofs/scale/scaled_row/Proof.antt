@@ -1,11 +1,11 @@
 -- `scale::scaled_row` meets its contract: place by place, each from its own coefficient.
 use mathlib.Core.Path.{_≡_, _∙_}
-use Prim.Native.Nat.{_+_, _-_, _≤_}
+use Prim.Native.Nat.{ℕ, _+_, _-_, _*_, _≤_}
 use native.Mathlib.Nat as Nat
 use native.Mathlib.Omega.{arith}
 use lib.IntN.{ℤ}
 use mir.Syntax.{w32}
-use mir.Val.{toZ, ofZ}
+use mir.Val.{Fits, toZ, ofZ}
 use mir.Facts.{toZ-ofZ}
 use Rattle.local.specs.Horner.{at}
 use Rattle.numbers.proofs.Machine.{read64}
@@ -44,11 +44,11 @@ same c = toZ-ofZ (record { sfits = c .a .given })
 add-scaled-place : tie.Need-add-scaled-place Inv-loop μ-loop
 add-scaled-place c = omega arith
 
+small : {a b : ℕ} → a ≤ 8 → b ≤ 8 → Fits w32 (a * b)
+small p q = let m = Nat.mul-le-mul p q in omega arith
+
 mul-scaled-place : tie.Need-mul-scaled-place Inv-loop μ-loop
-mul-scaled-place c =
-    let s = c .before .before .before in
-    let p : s .args .k + 1 ≤ 8 = omega arith in let q : s .args .n - c .before .before .loop .j ≤ 8 = omega arith in
-    let m = Nat.mul-le-mul p q in omega arith
+mul-scaled-place c = small (omega arith) (omega arith)
 
 scaled-place-requires : tie.Need-scaled-place-requires Inv-loop μ-loop
 scaled-place-requires c κs = rw (same c) (c .before .before .before .pre .1 .light (c .before .before .loop .j) (omega arith))
