@@ -29,7 +29,7 @@ def arguments(call, g):
 # ---- random sheets that are accepted
 
 def places(rng, d):
-    """Some of the exponents of degree d, (0, 0) or others with it: the coefficients elsewhere are to be 0."""
+    """Some of the exponents up to degree d: the coefficients elsewhere are to be 0."""
     true_degree = rng.choice((d, d, rng.randint(0, d)))
     low = [(i, j) for i, j in second.exponents(d) if i + j <= true_degree]
     return rng.choice((

@@ -2,10 +2,13 @@
 
 - docs/PROMISES.md names theorems by file and name: each is declared, and public, in that file. It names each must-fail edit
   once.
+- Where its table has the columns 'statement' and 'theorem', the statement is closed, and the theorem is declared with just that
+  statement as its type, brought in from the file of specs/. Every other statement of such a file has its row too.
 - Every file of a crate that a document names stands in the tree.
 - No axiom and no hole stands in a crate.
 - No file of a crate is over 400 lines, and none brings in a name that it does not use.
-- A public call, a `pub fn` at the root of a crate that the outside calls, has no `requires`.
+- A public call, a `pub fn` at the root of a crate that the outside calls, has no `requires` and one `ensures`, which is a promise of
+  the crate's specs/Promises.antt and nothing besides.
 - No tracked file speaks of a place on somebody's machine.
 """
 import pathlib
@@ -65,15 +68,89 @@ def axioms_and_holes():
                 yield f"{path.relative_to(ROOT)}:{number} has an axiom or a hole"
 
 
-def requirements():
+def brings(path, crate, file, name):
+    """Whether a source brings in a name, as itself, from a file of a crate's specs/."""
+    home = rf"Rattle.{crate}(?:·specs)?\.specs\.{file.replace('/', '.')}"
+    lists = re.findall(rf"^(?:ghost )?use {home}\.\{{(.*)\}};?\s*$", "\n".join(code_of(path)), re.M)
+    return any(name == item.strip() for line in lists for item in line.split(","))
+
+
+def stated():
+    """The rows of docs/PROMISES.md under the columns 'statement' and 'theorem': those two cells of each."""
+    columns = []
+    for line in (ROOT / "docs" / "PROMISES.md").read_text().splitlines():
+        cells = [cell.strip() for cell in re.split(r"(?<!\\)\|", line)[1:-1]]
+        if not cells:
+            columns = []
+        elif not columns:
+            columns = cells
+        elif columns[-2:] == ["statement", "theorem"] and not set(line) <= set("|-: "):
+            yield cells[-2:]
+
+
+def names_in(cell, folder):
+    """What a cell cites of the files of a folder: crate, file without its ending, name."""
+    found = re.findall(rf"`crates/(\w+)/{folder}/([^`]+)\.antt`((?:,?\s+`[^`/]+`)+)", cell)
+    return [(crate, file, name) for crate, file, names in found for name in re.findall(r"`([^`]+)`", names)]
+
+
+def closed():
+    """Every statement of specs/ that leaves nothing open: crate, file, name."""
+    for path in sorted(ROOT.glob("crates/*/specs/**/*.antt")):
+        _, crate, _, *file = path.relative_to(ROOT).with_suffix("").parts
+        for name in re.findall(r"^(?:(?:abbrev|unfoldable) )*pub (\S+) : Type 0\s*$", "\n".join(code_of(path)), re.M):
+            yield crate, "/".join(file), name
+
+
+def statements():
+    complete, met = set(closed()), set()
+    for statement, theorem in stated():
+        said = [fact for fact in names_in(statement, "specs") if fact in complete]
+        proved = names_in(theorem, "proofs")
+        met.update(said)
+        if not said or len(said) != len(proved):
+            yield f"docs/PROMISES.md: {statement} | {theorem} has not one theorem for each closed statement"
+            continue
+        for (crate, file, name), (home, proof, witness) in zip(said, proved):
+            path = ROOT / "crates" / home / "proofs" / f"{proof}.antt"
+            lines = [line.rstrip() for line in code_of(path)] if path.exists() else []
+            if f"pub {witness} : {name}" not in lines:
+                yield f"crates/{home}/proofs/{proof}.antt does not declare `pub {witness} : {name}`"
+            elif not brings(path, crate, file, name):
+                yield f"crates/{home}/proofs/{proof}.antt does not bring in {name} from crates/{crate}/specs/{file}.antt"
+    files = {(crate, file) for crate, file, _ in met}
+    for crate, file, name in sorted(fact for fact in complete - met if fact[:2] in files):
+        yield f"docs/PROMISES.md has no theorem for the statement {name} of crates/{crate}/specs/{file}.antt"
+
+
+def contracts():
     for crate in CALLS:
-        text = (ROOT / "crates" / crate / "src" / "lib.rt").read_text()
-        found = re.findall(r"^pub fn (\w+)\(.*?^\{", text, re.M | re.S)
-        if not found:
+        path = ROOT / "crates" / crate / "src" / "lib.rt"
+        lines = code_of(path)
+        promised = "\n".join(code_of(ROOT / "crates" / crate / "specs" / "Promises.antt"))
+        calls = [number for number, line in enumerate(lines) if re.match(r"pub (?:[^(]* )?fn ", line)]
+        if not calls:
             yield f"crates/{crate}/src/lib.rt has no public call"
-        for match in re.finditer(r"^pub fn (\w+)\(.*?^\{", text, re.M | re.S):
-            if re.search(r"^\s+requires\b", match[0], re.M):
-                yield f"{crate}::{match[1]} is a public call and has a `requires`"
+        for number in calls:
+            call = re.search(r"fn (\w+)", lines[number])[1]
+            # the head of the function: up to the line that opens its body
+            end = next(n for n in range(number, len(lines)) if lines[n].rstrip().endswith("{"))
+            head = "\n".join(lines[number:end + 1])
+            if re.search(r"\brequires\b", head):
+                yield f"{crate}::{call} is a public call and has a `requires`"
+            ensured = re.findall(r"\bensures\b", head)
+            found = re.search(r"^\s+ensures \{ λ (\w+)\. ⌜ (.*) ⌝ \}$", head, re.M)
+            if len(ensured) != 1 or not found:
+                yield f"{crate}::{call} is a public call and has not one `ensures`"
+                continue
+            statement = found[2]
+            while re.search(r"\([^()]*\)", statement):
+                statement = re.sub(r"\([^()]*\)", "_", statement)
+            # a name, what it is applied to, and the outcome last: no second statement beside it
+            promise = re.fullmatch(rf"(\w+)(?: \w+)* {found[1]}", statement)
+            name = promise[1] if promise else None
+            if not name or not re.search(rf"^(?:(?:abbrev|unfoldable) )*pub {name} : ", promised, re.M) or not brings(path, crate, "Promises", name):
+                yield f"{crate}::{call} ensures what is no promise of crates/{crate}/specs/Promises.antt"
 
 
 def lengths():
@@ -84,14 +161,13 @@ def lengths():
 
 
 def imports():
+    """Names brought in by `use FILE.{..}`, and in code by `ghost use FILE.{..}`, that a file does not use."""
     for path in sources():
-        if path.suffix != ".antt":
-            continue
         lines = code_of(path)
-        body = "\n".join(line for line in lines if not line.startswith("use "))
+        body = "\n".join(line for line in lines if not re.match(r"(ghost )?use ", line))
         words = set(re.findall(r'[^\s(){}.;,@"«»]+', body))
         for number, line in enumerate(lines, 1):
-            found = re.match(r"use \S+?\.\{(.*)\}\s*$", line)
+            found = re.match(r"(?:ghost )?use \S+?\.\{(.*)\};?\s*$", line)
             for item in found[1].split(",") if found else ():
                 name = item.split(" as ")[-1].strip()
                 if name not in words and not all(part in words for part in name.split("_") if part):
@@ -110,7 +186,7 @@ def places():
 
 
 def main():
-    faults = [fault for check in (promises, edits, mentions, axioms_and_holes, requirements, lengths, imports, places) for fault in check()]
+    faults = [fault for check in (promises, statements, edits, mentions, axioms_and_holes, contracts, lengths, imports, places) for fault in check()]
     for fault in faults:
         print(fault)
     print(f"tree: {len(faults)} faults in {len(sources())} source files")

@@ -27,7 +27,7 @@ use Rattle.sheet.specs.Sheet.{Sheet, A}
 use Rattle.sheet.specs.Scaled.{F, IsCell, InCell, half-side, U0, V0}
 use Rattle.sheet.specs.Bounds.{lower, upper, bend}
 use Rattle.sheet.specs.Weight.{R, weight, Accepted}
-use Rattle.sheet.specs.Demand3.{Contained, NoOvershoot, OneSign, OpenMeets, Fits64, AllFit}
+use Rattle.sheet.specs.Demand3.{Contained, NoOvershoot, OneSign, OpenMeets, Fits64, CellFits, AllFit}
 use Rattle.sheet.proofs.Cells.{limit-u, limit-v}
 use Rattle.sheet.proofs.Weights.{weight-is}
 use Rattle.sheet.proofs.Page.{polynomial, centre, value-is, F-is, G-is, lower-is, upper-is, bend-is}
@@ -55,43 +55,42 @@ told x y = go (ltZ (pos 0) x) (ltZ y (pos 0)) refl refl
     go false true w v = ltZ-yes (subst T (sym v) tt)
     go false false w v = (ltZ-no (subst (λ b. T (not b)) (sym w) tt), ltZ-no (subst (λ b. T (not b)) (sym v) tt))
 
-module _ (S : Sheet) (mode : Bounds.Mode) (j p q : ℕ) where
-  -- containment
-  pub contained : Contained S mode j p q
-  contained M N Q c = rw (lower-is S j p q mode, upper-is S j p q mode, value-is S M N Q) (Box.contained (polynomial S) mode (centre S j p q) (half-side S j) (pair M N) Q (in-box S j p q c))
+-- containment
+pub contained : Contained
+contained S mode j p q M N Q c = rw (lower-is S j p q mode, upper-is S j p q mode, value-is S M N Q) (Box.contained (polynomial S) mode (centre S j p q) (half-side S j) (pair M N) Q (in-box S j p q c))
 
-  -- a cleared cell has one strict sign
-  pub one-sign : OneSign S mode j p q
-  one-sign M N Q o c l u =
-      let signed = Box.strictly-signed (polynomial S) mode (centre S j p q) (half-side S j) (pair M N) Q o (in-box S j p q c) in
-      let tell = told (lower S mode j p q) (upper S mode j p q) in (
-        λ e. rw (value-is S M N Q) (signed .0 (rw (lower-is S j p q mode) at (subst (Told (lower S mode j p q) (upper S mode j p q)) e tell))),
-        λ e. rw (value-is S M N Q) (signed .1 (rw (upper-is S j p q mode) at (subst (Told (lower S mode j p q) (upper S mode j p q)) e tell))),
-      )
+-- a cleared cell has one strict sign
+pub one-sign : OneSign
+one-sign S mode j p q M N Q o c l u =
+    let signed = Box.strictly-signed (polynomial S) mode (centre S j p q) (half-side S j) (pair M N) Q o (in-box S j p q c) in
+    let tell = told (lower S mode j p q) (upper S mode j p q) in (
+      λ e. rw (value-is S M N Q) (signed .0 (rw (lower-is S j p q mode) at (subst (Told (lower S mode j p q) (upper S mode j p q)) e tell))),
+      λ e. rw (value-is S M N Q) (signed .1 (rw (upper-is S j p q mode) at (subst (Told (lower S mode j p q) (upper S mode j p q)) e tell))),
+    )
 
-  -- overshoot, by the four corners
-  at-values : (P : ℤ → Type 0) → AtCorners (U0 S j p) (V0 S j q) (half-side S j) (λ u v. P (F S u v)) → AtCorners (U0 S j p) (V0 S j q) (half-side S j) (λ u v. P (value (polynomial S) (pair u v) 1))
-  at-values P (a, b, c, d) = (subst P (F-is S _ _) a, subst P (F-is S _ _) b, subst P (F-is S _ _) c, subst P (F-is S _ _) d)
+-- overshoot, by the four corners
+at-values : (S : Sheet) (j p q : ℕ) (P : ℤ → Type 0) → AtCorners (U0 S j p) (V0 S j q) (half-side S j) (λ u v. P (F S u v)) → AtCorners (U0 S j p) (V0 S j q) (half-side S j) (λ u v. P (value (polynomial S) (pair u v) 1))
+at-values S j p q P (a, b, c, d) = (subst P (F-is S _ _) a, subst P (F-is S _ _) b, subst P (F-is S _ _) c, subst P (F-is S _ _) d)
 
-  pub no-overshoot : NoOvershoot S mode j p q
-  no-overshoot = (
-    λ m h. rw (lower-is S j p q mode, bend-is S j p q) (lower-four-corners (S .d) (2 ^ (S .k + 1)) (A S) (U0 S j p) (V0 S j q) (half-side S j) mode m (at-values (λ z. m ≤ℤ z) h)),
-    λ m h. rw (upper-is S j p q mode, bend-is S j p q) (upper-four-corners (S .d) (2 ^ (S .k + 1)) (A S) (U0 S j p) (V0 S j q) (half-side S j) mode m (at-values (λ z. z ≤ℤ m) h)),
-  )
+pub no-overshoot : NoOvershoot
+no-overshoot S mode j p q = (
+  λ m h. rw (lower-is S j p q mode, bend-is S j p q) (lower-four-corners (S .d) (2 ^ (S .k + 1)) (A S) (U0 S j p) (V0 S j q) (half-side S j) mode m (at-values S j p q (λ z. m ≤ℤ z) h)),
+  λ m h. rw (upper-is S j p q mode, bend-is S j p q) (upper-four-corners (S .d) (2 ^ (S .k + 1)) (A S) (U0 S j p) (V0 S j q) (half-side S j) mode m (at-values S j p q (λ z. z ≤ℤ m) h)),
+)
 
-  -- an open cell without bend meets the curve
-  pub open-meets : OpenMeets S mode j p q
-  open-meets l u e z =
-      let t = subst (Told (lower S mode j p q) (upper S mode j p q)) e (told (lower S mode j p q) (upper S mode j p q)) in
-      let m = meets (polynomial S) (centre S j p q) (half-side S j) (sym (bend-is S j p q) ∙ z) mode (rw (lower-is S j p q mode) at (t .0)) (rw (upper-is S j p q mode) at (t .1)) in
-      record {
-        M = m .x 0;
-        N = m .x 1;
-        Q = m .Q;
-        positive = m .positive;
-        inside = from-box S j p q (both (λ v. natAbs (pair (m .x 0) (m .x 1) v -ℤ pos (m .Q) *ℤ centre S j p q v) ≤ m .Q * half-side S j) (m .inside 0 (omega arith)) (m .inside 1 (omega arith)));
-        vanishes = value-is S (m .x 0) (m .x 1) (m .Q) ∙ sym (value-pair (S .d) (2 ^ (S .k + 1)) (A S) (m .x) (m .Q)) ∙ m .vanishes;
-      }
+-- an open cell without bend meets the curve
+pub open-meets : OpenMeets
+open-meets S mode j p q l u e z =
+    let t = subst (Told (lower S mode j p q) (upper S mode j p q)) e (told (lower S mode j p q) (upper S mode j p q)) in
+    let m = meets (polynomial S) (centre S j p q) (half-side S j) (sym (bend-is S j p q) ∙ z) mode (rw (lower-is S j p q mode) at (t .0)) (rw (upper-is S j p q mode) at (t .1)) in
+    record {
+      M = m .x 0;
+      N = m .x 1;
+      Q = m .Q;
+      positive = m .positive;
+      inside = from-box S j p q (both (λ v. natAbs (pair (m .x 0) (m .x 1) v -ℤ pos (m .Q) *ℤ centre S j p q v) ≤ m .Q * half-side S j) (m .inside 0 (omega arith)) (m .inside 1 (omega arith)));
+      vanishes = value-is S (m .x 0) (m .x 1) (m .Q) ∙ sym (value-pair (S .d) (2 ^ (S .k + 1)) (A S) (m .x) (m .Q)) ∙ m .vanishes;
+    }
 
 -- ---- sizes: on an accepted sheet all of it fits in 64 signed bits
 module _ (S : Sheet) (j p q : ℕ) (c : IsCell S j p q) where
@@ -122,8 +121,8 @@ module _ (S : Sheet) (j p q : ℕ) (c : IsCell S j p q) where
     plus-le : (u : ℤ) (h n : ℕ) → natAbs u + h ≤ n → natAbs (u +ℤ pos h) ≤ n
     plus-le u h n l = let t = natAbs-+ℤ u (pos h) in omega arith
 
-    pub all-fit : (mode : Bounds.Mode) → AllFit S mode j p q
-    all-fit mode =
+    cell-fits : (mode : Bounds.Mode) → CellFits S mode j p q
+    cell-fits mode =
         let P = polynomial S in let u = centre S j p q in let H = half-side S j in let r : ℕ → ℕ = λ v. R S in let n = 2 ^ (S .k + 1) * R S in
         let hu = limit-u S j p q c in let hv = limit-v S j p q c in
         let left = fits-limit (U0 S j p -ℤ pos H) (minus-le (U0 S j p) H n hu) in let right = fits-limit (U0 S j p +ℤ pos H) (plus-le (U0 S j p) H n hu) in
@@ -138,3 +137,6 @@ module _ (S : Sheet) (j p q : ℕ) (c : IsCell S j p q) where
           bends = rw (bend-is S j p q) (fits-weight (pos (Bounds.bend P u H)) (bend-size P u H r limited));
           values = λ x y i. rw (F-is S x y) (fits-weight (value P (pair x y) 1) (value-in-box-size P u H r (pair x y) limited (in-box S j p q i)));
         }
+
+pub all-fit : AllFit
+all-fit S a mode j p q c = cell-fits S j p q c a mode

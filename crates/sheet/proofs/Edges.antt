@@ -15,7 +15,7 @@ use Rattle.algebra.proofs.Absolute.{natAbs-bound, natAbs-zero, ≤ℤ-natAbs, -
 use Rattle.algebra.proofs.Order.{≤ℤ-by, ≤ℤ-trans, negℤ-mono, pos-mono}
 use Rattle.algebra.proofs.Ring.{ring, _⊕_, _⊖_, _⊗_, ⊝_, #_, _≐_}
 use Rattle.algebra.proofs.Triangle.{triangle-mono}
-use Rattle.sheet.specs.Sheet.{Sheet, A}
+use Rattle.sheet.specs.Sheet.{A}
 use Rattle.sheet.specs.Scaled.{half-side, InCell}
 use Rattle.sheet.specs.Weight.{R, weight}
 use Rattle.sheet.specs.Refusals.{outside-side, misplaced, point, refusal}
@@ -67,7 +67,7 @@ module _ (K n H : ℕ) (z u : ℤ) (twice : 2 * H ≡ K * n) where
   not-outside h =
       (not-less (low-above (≤ℤ-trans (negℤ-mono (pos-mono h)) (-natAbs-≤ℤ offset))), not-less (high-below (≤ℤ-trans (≤ℤ-natAbs offset) (pos-mono h))))
 
-pub square-is-cell : (S : Sheet) → SquareIsCell S
+pub square-is-cell : SquareIsCell
 square-is-cell S u v = (to, from)
   where
     twice : 2 * half-side S 0 ≡ 2 ^ (S .k + 1) * 2 ^ S .s
@@ -87,7 +87,7 @@ square-is-cell S u v = (to, from)
         rw (x .0, x .1, y .0, y .1)
 
 -- ---- d 8 with k 7
-pub only-zeros : (S : Sheet) → OnlyZeros S
+pub only-zeros : OnlyZeros
 unfolding weight
 only-zeros S r d k = (zeros, some)
   where

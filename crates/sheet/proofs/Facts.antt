@@ -4,6 +4,7 @@ use mathlib.Core.Bool.{Bool, true, false}
 use mathlib.Core.List.{List, [], _∷_, _++_, List·Memᴰ, List·Memᴰ·head, List·Memᴰ·tail, List·Memᴰ·cases-cons, List·Memᴰ·not-nil}
 use mathlib.Core.Logic.{⊎-elim}
 use Prim.Native.Nat.{ℕ, _+_, _*_, _-_, _^_}
+use native.Mathlib.Nat as Nat
 use native.Mathlib.Omega.{arith}
 use borrow.Author.Tests.{le-ltb, leb-false, lt-leb}
 use lib.Dec.{leb}
@@ -14,27 +15,28 @@ use Rattle.algebra.proofs.Power.{pow-+, *ℤ-pow}
 use Rattle.algebra.proofs.Ring.{ring, _⊕_, _⊖_, _⊗_, #_, _≐_}
 use Rattle.algebra.proofs.Sum.{sum-cong, *ℤ-sum}
 use Rattle.algebra.proofs.Run.{⋯-member}
+use Rattle.algebra.proofs.Places.{row-start-all, places-45}
+use Rattle.forms.specs.Vectors.{total}
 use Rattle.forms.specs.Points.{powers}
-use Rattle.forms.specs.Box.{corner}
 use Rattle.forms.specs.LocalForm.{local}
 use Rattle.forms.specs.Plane.{pair}
 use Rattle.forms.proofs.Plane.{scale-page, value-pair, sum-plane}
-use Rattle.forms.proofs.Taylor.{local-whole}
-use Rattle.sheet.specs.Sheet.{Sheet, A}
+use Rattle.forms.proofs.Taylor.{local-formula}
+use Rattle.sheet.specs.Sheet.{A}
 use Rattle.sheet.specs.Scaled.{half-side, value-at, f-at}
 use Rattle.sheet.specs.Weight.{weight, Accepted}
 use Rattle.sheet.specs.Refusals.{Row, first, refusal}
 use Rattle.sheet.specs.Answers.{to-check}
 use Rattle.sheet.specs.Steps.{range-refusal}
-use Rattle.sheet.specs.Facts.{ScalesF, AtWhole, SharedEdges, Expands, AcceptedByCheck, GivenBy, GivenExactly}
+use Rattle.sheet.specs.Facts.{ScalesF, AtWhole, SharedEdges, Expands, AtMost45, AcceptedByCheck, GivenBy, GivenExactly}
 use Rattle.sheet.proofs.Rows.{check-rows, range-passed, range-0, outside-size, both-zero, next-row, rest}
 use Rattle.sheet.proofs.Page.{polynomial, centre, F-is, G-is, value-is}
 
 -- ---- F and f
-pub at-whole : (S : Sheet) → AtWhole S
+pub at-whole : AtWhole
 at-whole S u v = value-is S u v 1 ∙ sym (F-is S u v)
 
-pub scales-F : (S : Sheet) → ScalesF S
+pub scales-F : ScalesF
 unfolding value-at f-at
 scales-F S M N Q =
     let K = pos (2 ^ (S .k + 1)) in let d = S .d in
@@ -46,22 +48,26 @@ scales-F S M N Q =
     ∙ sym (*ℤ-sum (pos (2 ^ ((S .k + 1) * d))) (0 ⋯ d) _ ∙ sum-cong (0 ⋯ d) (λ i m. *ℤ-sum (pos (2 ^ ((S .k + 1) * d))) (0 ⋯ (d - i)) _))
 
 -- ---- cells
-pub shared-edges : (S : Sheet) (j p q : ℕ) → SharedEdges S j p q
+pub shared-edges : SharedEdges
 shared-edges S j p q = (edge (S .X) p, edge (S .Y) q)
   where
     edge : (z : ℤ) (p : ℕ) → pos (2 ^ (S .k + 1)) *ℤ z +ℤ pos ((2 * p + 1) * half-side S j) +ℤ pos (half-side S j) ≡ pos (2 ^ (S .k + 1)) *ℤ z +ℤ pos ((2 * (p + 1) + 1) * half-side S j) -ℤ pos (half-side S j)
     edge z p = ring (pos (2 ^ (S .k + 1)) ∷ z ∷ pos p ∷ pos (half-side S j) ∷ []) (λ n x p h. n ⊗ x ⊕ (# 2 ⊗ p ⊕ # 1) ⊗ h ⊕ h ≐ n ⊗ x ⊕ (# 2 ⊗ (p ⊕ # 1) ⊕ # 1) ⊗ h ⊖ h) tt
 
-pub expands : (S : Sheet) (j p q : ℕ) → Expands S j p q
-unfolding powers
-expands S j p q e g =
-    F-is S _ _ ∙ sym (value-pair (S .d) (2 ^ (S .k + 1)) (A S) (corner (centre S j p q) (half-side S j) (pair e g)) 1)
-    ∙ local-whole (polynomial S) (centre S j p q) (half-side S j) (pair e g)
-    ∙ sum-plane (S .d) (λ x. local (polynomial S) (centre S j p q) (half-side S j) x *ℤ powers (pair e g) x)
-    ∙ sum-cong (0 ⋯ (S .d)) (λ a m. sum-cong (0 ⋯ (S .d - a)) (λ b n. rw (*ℤ-idr, ← G-is S j p q a b)))
+pub expands : Expands
+unfolding powers total
+expands S j p q M N Q =
+    value-is S _ _ Q ∙ sym (value-pair (S .d) (2 ^ (S .k + 1)) (A S) (λ v. pos Q *ℤ centre S j p q v +ℤ pos (half-side S j) *ℤ pair M N v) Q)
+    ∙ local-formula (polynomial S) (centre S j p q) (half-side S j) (pair M N) Q
+    ∙ sum-plane (S .d) (λ x. local (polynomial S) (centre S j p q) (half-side S j) x *ℤ powers (pair M N) x *ℤ pow (pos Q) (S .d - total x))
+    ∙ sum-cong (0 ⋯ (S .d)) (λ a m. sum-cong (0 ⋯ (S .d - a)) (λ b n. rw (*ℤ-idr, ← G-is S j p q a b, Nat.add-zero, Nat.sub-add-eq)))
+
+-- ---- sheets
+pub at-most-45 : AtMost45
+at-most-45 d h = rw (row-start-all d) at (places-45 d h)
 
 -- ---- accepted, by the definition and by check
-pub accepted-by-check : (S : Sheet) → AcceptedByCheck S
+pub accepted-by-check : AcceptedByCheck
 accepted-by-check S = (passes, passed)
   where
     passed : refusal (to-check S) ≡ 0 → Accepted S
@@ -107,5 +113,5 @@ unfolding first
 found n [] h e = absurd (h (sym e))
 found n (r ∷ rs) h e = after-row n r rs (r .holds) refl e (found n rs h)
 
-pub given-exactly : (rows : List Row) → GivenExactly rows
+pub given-exactly : GivenExactly
 given-exactly rows n h = (found n rows h, λ g. ap first (g .split) ∙ past (g .before) (g .row) (g .after) (g .nothing-before) (g .holds) ∙ g .number)

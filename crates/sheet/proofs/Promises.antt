@@ -14,7 +14,7 @@ use Rattle.sheet.specs.Sheet.{Sheet, mode-of}
 use Rattle.sheet.specs.Bounds.{lower, upper, bend}
 use Rattle.sheet.specs.Refusals.{refusal}
 use Rattle.sheet.specs.Answers.{unless, checked, states-weight, weighed, to-check, valued, states-value, evaluated, at-point, bounded, states-bounds, measured, in-cell}
-use Rattle.sheet.specs.Promises.{CheckPromise, ValuePromise, BoundsPromise}
+use Rattle.sheet.specs.Promises.{CheckPromise, ValuePromise, BoundsPromise, OneCheck, OneValue, OneBounds}
 
 -- a function of an answer is the answer of the function
 unless-ap : {X Y : Type 0} (f : X → Y) (n : ℕ) (r : ℕ → X) (v : X) → f (unless n r v) ≡ unless n (λ m. f (r m)) (f v)
@@ -57,11 +57,11 @@ pub bounds-kept : (S : Sheet) (mode j p q : ℕ) {r : Bounded} → r ≡ bounded
 bounds-kept S mode j p q e = (e, ap states-bounds e ∙ bounds-states S mode j p q)
 
 -- ---- and by nothing else
-pub check-unique : (S : Sheet) (r t : Checked) → CheckPromise S r → CheckPromise S t → r ≡ t
+pub check-unique : OneCheck
 check-unique S r t p q = p .0 ∙ sym (q .0)
 
-pub value-unique : (S : Sheet) (u v : ℤ) (r t : Valued) → ValuePromise S u v r → ValuePromise S u v t → r ≡ t
+pub value-unique : OneValue
 value-unique S u v r t p q = p .0 ∙ sym (q .0)
 
-pub bounds-unique : (S : Sheet) (mode j p q : ℕ) (r t : Bounded) → BoundsPromise S mode j p q r → BoundsPromise S mode j p q t → r ≡ t
+pub bounds-unique : OneBounds
 bounds-unique S mode j p q r t x y = x .0 ∙ sym (y .0)

@@ -1,4 +1,4 @@
--- The promises of the public calls: the contracts' own text, as statements about an outcome r.
+-- The promises of the public calls, as statements about an outcome r: the contracts of src/lib.rt cite them.
 use mathlib.Core.Path.{_≡_}
 use Prim.Native.Nat.{ℕ}
 use lib.IntN.{ℤ}
@@ -17,3 +17,13 @@ ValuePromise S u v r = (r ≡ valued S u v) × (states-value r ≡ evaluated S u
 
 abbrev pub BoundsPromise : Sheet → ℕ → ℕ → ℕ → ℕ → Bounded → Type 0
 BoundsPromise S mode j p q r = (r ≡ bounded S mode j p q) × (states-bounds r ≡ measured S mode j p q)
+
+-- ---- no second outcome satisfies a promise
+abbrev pub OneCheck : Type 0
+OneCheck = (S : Sheet) (r t : Checked) → CheckPromise S r → CheckPromise S t → r ≡ t
+
+abbrev pub OneValue : Type 0
+OneValue = (S : Sheet) (u v : ℤ) (r t : Valued) → ValuePromise S u v r → ValuePromise S u v t → r ≡ t
+
+abbrev pub OneBounds : Type 0
+OneBounds = (S : Sheet) (mode j p q : ℕ) (r t : Bounded) → BoundsPromise S mode j p q r → BoundsPromise S mode j p q t → r ≡ t

@@ -3,7 +3,7 @@ use mathlib.Core.Bool.{Bool, false, not, _||_, cond}
 use mathlib.Core.List.{List, [], _∷_}
 use Prim.Native.Nat.{ℕ, _+_, _^_}
 use lib.Dec.{leb, ltb, eqb}
-use lib.IntN.{ℤ, pos, negsuc, _+ℤ_, _*ℤ_}
+use lib.IntN.{ℤ, pos, negℤ, _+ℤ_, _*ℤ_}
 use lib.ListN.{length}
 use lib.Signed.{ltZ}
 use Rattle.sheet.specs.Sheet.{Sheet, count, mode-of}
@@ -35,7 +35,7 @@ if-given (given n) holds = holds n
 -- ---- the conditions
 -- X or Y outside its range, -1,048,576 to 1,048,576
 abbrev pub outside-range : ℤ → Bool
-outside-range z = ltZ z (negsuc 1_048_575) || ltZ (pos 1_048_576) z
+outside-range z = ltZ z (negℤ (pos 1_048_576)) || ltZ (pos 1_048_576) z
 
 -- U outside 2^(k+1)·X to 2^(k+1)·(X + 2^s), and so of V and Y
 abbrev pub outside-side : ℕ → ℕ → ℤ → ℤ → Bool
@@ -75,7 +75,7 @@ table c =
     ∷ (7 when if-given (c .entries) (λ n. ltb n (4 ^ S .k)))
     -- j > k, p or q not below 2^j; or the point is outside the closed square
     ∷ (8 when misplaced S (c .question))
-    -- visited above 65,535: asked of the calls that walk, which are those that lend a place
+    -- visited above 65,535: asked of the calls that walk, which are those that are lent a place
     ∷ (9 when if-given (c .entries) (λ _. if-given (c .mode) (λ m. ltb 65_535 (visited (verdict S (mode-of m)) (S .k)))))
     ∷ []
 

@@ -6,8 +6,7 @@ mod refusals;
 mod scale;
 
 ghost use Rattle.sheet.specs.Sheet.{sheet-of};
-ghost use mathlib.Core.Path.{_≡_};
-ghost use Rattle.sheet.specs.Answers.{checked, states-weight, weighed, valued, states-value, evaluated, bounded, states-bounds, measured};
+ghost use Rattle.sheet.specs.Promises.{CheckPromise, ValuePromise, BoundsPromise};
 
 // Weight and spare places, or a refusal.
 pub enum Checked {
@@ -29,7 +28,7 @@ pub enum Bounded {
 
 // Check a sheet.
 pub fn check(d: u32, coefficients: &[i32], x: i32, y: i32, s: u32, k: u32) -> Checked
-    ensures { λ r. ⌜ (r ≡ checked (sheet-of d (now (coefficients .entry)) x y s k)) × (states-weight r ≡ weighed (sheet-of d (now (coefficients .entry)) x y s k)) ⌝ }
+    ensures { λ r. ⌜ CheckPromise (sheet-of d (now (coefficients .entry)) x y s k) r ⌝ }
 {
     let refusal = refusals::range_refusal(d, coefficients, x, y, s, k);
     if refusal != 0 {
@@ -45,7 +44,7 @@ pub fn check(d: u32, coefficients: &[i32], x: i32, y: i32, s: u32, k: u32) -> Ch
 
 // Value F at a whole-number point (u, v) of the closed square.
 pub fn value(d: u32, coefficients: &[i32], x: i32, y: i32, s: u32, k: u32, u: i64, v: i64) -> Valued
-    ensures { λ r. ⌜ (r ≡ valued (sheet-of d (now (coefficients .entry)) x y s k) u v) × (states-value r ≡ evaluated (sheet-of d (now (coefficients .entry)) x y s k) u v) ⌝ }
+    ensures { λ r. ⌜ ValuePromise (sheet-of d (now (coefficients .entry)) x y s k) u v r ⌝ }
 {
     let refusal = refusals::point_refusal(d, coefficients, x, y, s, k, u, v);
     if refusal != 0 {
@@ -71,7 +70,7 @@ pub fn bounds(
     p: u32,
     q: u32,
 ) -> Bounded
-    ensures { λ r. ⌜ (r ≡ bounded (sheet-of d (now (coefficients .entry)) x y s k) mode j p q) × (states-bounds r ≡ measured (sheet-of d (now (coefficients .entry)) x y s k) mode j p q) ⌝ }
+    ensures { λ r. ⌜ BoundsPromise (sheet-of d (now (coefficients .entry)) x y s k) mode j p q r ⌝ }
 {
     let refusal = refusals::cell_refusal(d, coefficients, x, y, s, k, mode, j, p, q);
     if refusal != 0 {

@@ -1,6 +1,5 @@
 // The conditions of the refusal table, tried in its order.
 ghost use mathlib.Core.Path.{_≡_};
-ghost use mathlib.Core.Bool.{Bool};
 ghost use Prim.Native.Nat.{_^_, _≤_, min};
 ghost use lib.IntN.{natAbs};
 ghost use Rattle.sheet.specs.Sheet.{sheet-of, InRange};

@@ -1,5 +1,5 @@
 -- The starred table holds: computed from the definitions.
-use lib.Dec.{T}
+use mathlib.Core.Path.{refl}
 use lib.IntN.{pow, one}
 use Rattle.algebra.specs.Sum.{sum, sumℕ, run, span, _⋯_}
 use Rattle.algebra.specs.Binomial.{choose}
@@ -14,8 +14,8 @@ use Rattle.sheet.specs.Walking.{colour, raster, visited, coloured}
 use Rattle.sheet.specs.Weight.{weight}
 use Rattle.sheet.specs.Refusals.{table, first}
 use Rattle.sheet.specs.Answers.{checked, valued, bounded}
-use Rattle.starred.specs.Starred.{holds, starred, all-hold}
+use Rattle.starred.specs.Starred.{holds, starred, all-hold, StarredHold}
 
-pub starred-hold : T (all-hold starred)
+pub starred-hold : StarredHold
 unfolding pow one sum sumℕ run span _⋯_ choose minℤ maxℤ row-start digits judged F G lower upper bend colour raster visited coloured weight table first checked valued bounded holds starred all-hold
-starred-hold = tt
+starred-hold = refl

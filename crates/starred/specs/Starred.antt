@@ -1,9 +1,10 @@
 -- Checked sheets: those with a star, as one table of sheets and the figures that the page gives of them.
-use mathlib.Core.Bool.{Bool, true, _&&_, _||_}
+use mathlib.Core.Path.{_≡_}
+use mathlib.Core.Bool.{Bool, true, _&&_}
 use mathlib.Core.List.{List, [], _∷_}
 use Prim.Native.Nat.{ℕ}
 use lib.Dec.{eqb}
-use lib.IntN.{ℤ, pos, negsuc}
+use lib.IntN.{ℤ, pos, negℤ}
 use lib.ListN.{length, replicate}
 use lib.Signed.{leZ}
 use Rattle.sheet.specs.Sheet.{Sheet, mode-of}
@@ -18,10 +19,11 @@ pub data Figure : Type 0 where
   bend-is : ℕ → ℕ → ℕ → ℕ → ℕ → Figure
   -- what `value` answers at a point
   value-is : ℤ → ℤ → ℤ → Figure
-  -- what `check` answers: weight and spare places, or a refusal
+  -- what `check` answers: weight and spare places, or a refusal, with no number stated beside its own
+  accepted : Figure
   weight-is : ℕ → Figure
   spare-is : ℕ → Figure
-  check-refuses : ℕ → Figure
+  refused-by : ℕ → Figure
   -- the tally, and the raster's bytes: how many, and each of them
   visited-are : ℕ → ℕ → Figure
   coloured-are : ℕ → ℕ → Figure
@@ -38,12 +40,17 @@ unfoldable pub holds : Sheet → Figure → Bool
 holds S (bounds-are m j p q l u) = let r = states-bounds (bounded S m j p q) in eqb (r .number) 0 && eqZ (r .lower) l && eqZ (r .upper) u
 holds S (bend-is m j p q n) = let r = states-bounds (bounded S m j p q) in eqb (r .number) 0 && eqb (r .bend) n
 holds S (value-is u v z) = let r = states-value (valued S u v) in eqb (r .number) 0 && eqZ (r .value) z
+holds S accepted = eqb (states-weight (checked S) .number) 0
 holds S (weight-is n) = let r = states-weight (checked S) in eqb (r .number) 0 && eqb (r .weight) n
 holds S (spare-is n) = let r = states-weight (checked S) in eqb (r .number) 0 && eqb (r .spare) n
-holds S (check-refuses n) = let r = states-weight (checked S) in eqb (r .number) n && (eqb n 0 || (eqb (r .weight) 0 && eqb (r .spare) 0))
+holds S (refused-by n) = let r = states-weight (checked S) in eqb (r .number) n && eqb (r .weight) 0 && eqb (r .spare) 0
 holds S (visited-are m n) = eqb (visited (verdict S (mode-of m)) (S .k)) n
 holds S (coloured-are m n) = eqb (coloured (verdict S (mode-of m)) (S .k)) n
 holds S (bytes-are m count n) = eqb (length (raster (verdict S (mode-of m)) (S .k))) count && every (raster (verdict S (mode-of m)) (S .k)) n
+
+-- -n, as the page writes a negative number
+abbrev pub minus : ℕ → ℤ
+minus n = negℤ (pos n)
 
 -- ---- the sheets, by degree, coefficients, corner (Y = X), side and depth
 abbrev sheet : ℕ → List ℤ → ℤ → ℕ → ℕ → Sheet
@@ -51,11 +58,11 @@ sheet d A X s k = record { d = d; coefficients = A; X = X; Y = X; s = s; k = k }
 
 -- 8x² + 1
 abbrev pub P1 : Sheet
-P1 = sheet 2 (pos 1 ∷ pos 0 ∷ pos 0 ∷ pos 0 ∷ pos 0 ∷ pos 8 ∷ []) (negsuc 0) 1 1
+P1 = sheet 2 (pos 1 ∷ pos 0 ∷ pos 0 ∷ pos 0 ∷ pos 0 ∷ pos 8 ∷ []) (minus 1) 1 1
 
 -- x - y
 abbrev pub P4 : Sheet
-P4 = sheet 1 (pos 0 ∷ negsuc 0 ∷ pos 1 ∷ []) (pos 0) 0 1
+P4 = sheet 1 (pos 0 ∷ minus 1 ∷ pos 1 ∷ []) (pos 0) 0 1
 
 -- 0
 abbrev pub P6 : Sheet
@@ -63,11 +70,11 @@ P6 = sheet 0 (pos 0 ∷ []) (pos 0) 0 0
 
 -- -5
 abbrev pub P7 : Sheet
-P7 = sheet 0 (negsuc 4 ∷ []) (pos 0) 0 7
+P7 = sheet 0 (minus 5 ∷ []) (pos 0) 0 7
 
 -- xy
 abbrev pub P8 : Sheet
-P8 = sheet 2 (pos 0 ∷ pos 0 ∷ pos 0 ∷ pos 0 ∷ pos 1 ∷ pos 0 ∷ []) (negsuc 0) 1 0
+P8 = sheet 2 (pos 0 ∷ pos 0 ∷ pos 0 ∷ pos 0 ∷ pos 1 ∷ pos 0 ∷ []) (minus 1) 1 0
 
 -- x²
 abbrev pub P9 : Sheet
@@ -95,19 +102,19 @@ starred =
     ∷ (P1 has weight-is 144)
     ∷ (P1 has spare-is 54)
     -- P2
-    ∷ (P1 has bounds-are 0 1 1 0 (negsuc 15) (pos 144))
+    ∷ (P1 has bounds-are 0 1 1 0 (minus 16) (pos 144))
     -- P3
-    ∷ (P1 has bounds-are 1 0 0 0 (negsuc 111) (pos 144))
-    ∷ (P1 has bounds-are 1 1 1 0 (negsuc 47) (pos 144))
+    ∷ (P1 has bounds-are 1 0 0 0 (minus 112) (pos 144))
+    ∷ (P1 has bounds-are 1 1 1 0 (minus 48) (pos 144))
     ∷ (P1 has visited-are 1 5)
     ∷ (P1 has coloured-are 1 4)
     -- P4
-    ∷ (P4 has bounds-are 0 1 0 0 (negsuc 1) (pos 2))
-    ∷ (P4 has bounds-are 1 1 0 0 (negsuc 1) (pos 2))
+    ∷ (P4 has bounds-are 0 1 0 0 (minus 2) (pos 2))
+    ∷ (P4 has bounds-are 1 1 0 0 (minus 2) (pos 2))
     ∷ (P4 has bounds-are 0 1 1 0 (pos 0) (pos 4))
     ∷ (P4 has bounds-are 1 1 1 0 (pos 0) (pos 4))
-    ∷ (P4 has bounds-are 0 1 0 1 (negsuc 3) (pos 0))
-    ∷ (P4 has bounds-are 1 1 0 1 (negsuc 3) (pos 0))
+    ∷ (P4 has bounds-are 0 1 0 1 (minus 4) (pos 0))
+    ∷ (P4 has bounds-are 1 1 0 1 (minus 4) (pos 0))
     ∷ (P4 has coloured-are 0 4)
     ∷ (P4 has coloured-are 1 4)
     ∷ (P4 has bytes-are 0 4 1)
@@ -125,11 +132,11 @@ starred =
     ∷ (P7 has bytes-are 0 16_384 3)
     ∷ (P7 has bytes-are 1 16_384 3)
     -- P8
-    ∷ (P8 has bounds-are 0 0 0 0 (negsuc 3) (pos 4))
-    ∷ (P8 has bounds-are 1 0 0 0 (negsuc 3) (pos 4))
+    ∷ (P8 has bounds-are 0 0 0 0 (minus 4) (pos 4))
+    ∷ (P8 has bounds-are 1 0 0 0 (minus 4) (pos 4))
     -- P9
-    ∷ (P9 has bounds-are 0 0 0 0 (negsuc 0) (pos 4))
-    ∷ (P9 has bounds-are 1 0 0 0 (negsuc 1) (pos 4))
+    ∷ (P9 has bounds-are 0 0 0 0 (minus 1) (pos 4))
+    ∷ (P9 has bounds-are 1 0 0 0 (minus 2) (pos 4))
     ∷ (P9 has bend-is 0 0 0 0 1)
     ∷ (P9 has bend-is 1 0 0 0 1)
     ∷ (P9 has value-is (pos 0) (pos 0) (pos 0))
@@ -137,11 +144,15 @@ starred =
     ∷ (P9 has value-is (pos 0) (pos 2) (pos 0))
     ∷ (P9 has value-is (pos 2) (pos 2) (pos 4))
     -- P10
-    ∷ (P10 63 has check-refuses 0)
-    ∷ (P10 64 has check-refuses 6)
+    ∷ (P10 63 has accepted)
+    ∷ (P10 64 has refused-by 6)
     ∷ []
 
 -- every figure of the table holds
 unfoldable pub all-hold : List Star → Bool
 all-hold [] = true
 all-hold (r ∷ rs) = holds (r .of) (r .figure) && all-hold rs
+
+-- ---- the table holds
+abbrev pub StarredHold : Type 0
+StarredHold = all-hold starred ≡ true

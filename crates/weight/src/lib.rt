@@ -76,10 +76,11 @@ pub fn capped_weight(d: u32, coefficients: &[i32], r: u64, n: u32) -> u64
     )
 }
 
-// 62 minus the count of binary digits, by the machine's own count of leading zeros: 64 less the digits, of which the weight never uses 2
+// 62 minus the count of binary digits, which is 64 less the machine's own count of leading zeros
 pub fn spare_places(weight: u64) -> u32
     requires { ⌜ weight < 2 ^ 62 ⌝ }
     ensures { λ r. ⌜ r ≡ 62 - digits weight ⌝ }
 {
-    u64::leading_zeros(weight) - 2
+    let digits = 64 - u64::leading_zeros(weight);
+    62 - digits
 }
