@@ -1,29 +1,50 @@
 """Cases for the comparison: the page's figures, the limits of the page, and seeded random cases.
 
-A case is the name of a call and what the call is given, in the order of tests/second.py's functions. The random ones are biased so that
-sheets of every degree and depth are accepted, and every refusal is given, alone and where others would hold after it.
+A case is the name of a call and what the call is given, in the order of tests/second.py's functions; for the place that is lent to raster and
+listing stands its number of entries, and `filled` says what they hold before the call. The random cases are biased so that sheets of
+every degree and depth are accepted, and every refusal is given, alone and where others would hold after it.
 """
 import collections
 import random
 
 import second
 
-CALLS = ("check", "value", "bounds")
+# the calls that speak of one sheet, point or cell, and those that walk and are lent a place
+SINGLE = ("check", "value", "bounds")
+WALKS = ("raster", "listing")
+CALLS = SINGLE + WALKS
 # the refusals that each call can give
-REFUSALS = {"check": (1, 2, 3, 4, 6), "value": (1, 2, 3, 4, 6, 8), "bounds": (1, 2, 3, 4, 5, 6, 8)}
+REFUSALS = {
+    "check": (1, 2, 3, 4, 6),
+    "value": (1, 2, 3, 4, 6, 8),
+    "bounds": (1, 2, 3, 4, 5, 6, 8),
+    "raster": (1, 2, 3, 4, 5, 6, 7),
+    "listing": (1, 2, 3, 4, 5, 6, 7),
+}
+# those that a raster and a listing of one sheet in one mode share: all but that of the place
+SHARED = (1, 2, 3, 4, 5, 6)
 MOST32, MOST31, MOST63 = 2 ** 32 - 1, 2 ** 31 - 1, 2 ** 63 - 1
 LEAST31, LEAST63 = -2 ** 31, -2 ** 63
 EDGE = 1_048_576
-# the most coefficients that a case can hand over
+# the most coefficients that a case can hand over, and the most entries of a place
 COUNT = 64
+ENTRIES = 4 ** 7 + 32
+# how often each depth is walked: the deep ones are slow
+DEPTHS = (0,) * 3 + (1,) * 6 + (2,) * 10 + (3,) * 12 + (4,) * 10 + (5,) * 5 + (6,) * 3 + (7,) * 2
 
 Sheet = collections.namedtuple("Sheet", "d coefficients X Y s k")
 # a sheet, and all that some call takes beside it
-Given = collections.namedtuple("Given", "sheet U V mode j p q")
+Given = collections.namedtuple("Given", "sheet U V mode j p q entries")
 
 
 def arguments(call, g):
-    return tuple(g.sheet) + {"check": (), "value": (g.U, g.V), "bounds": (g.mode, g.j, g.p, g.q)}[call]
+    walk = (g.mode, g.entries)
+    return tuple(g.sheet) + {"check": (), "value": (g.U, g.V), "bounds": (g.mode, g.j, g.p, g.q), "raster": walk, "listing": walk}[call]
+
+
+def filled(call, entries):
+    """A place before the call, by the rule of crates/compare: it holds no colour and no record."""
+    return [5 + i % 251 for i in range(entries)] if call == "raster" else [2 ** 32 - 1 - i % 2 ** 16 for i in range(entries)]
 
 
 # ---- random sheets that are accepted
@@ -69,10 +90,19 @@ def accepted(rng, d, k):
     return Sheet(d, second.terms(d, named), X, Y, s, k)
 
 
-def heavy(rng, weight):
+def near(rng, sheet):
+    """The sheet with another constant term, by which the curve passes near a point of the square; as it is where that weighs too much."""
+    d, coefficients, X, Y, s, k = sheet
+    U, V = (rng.randint(*ends(sheet, corner)) for corner in (X, Y))
+    there = second.polynomial(d, [0] + coefficients[1:], k, U, V, 1) >> (k + 1) * d
+    other = sheet._replace(coefficients=[-there] + coefficients[1:])
+    return other if LEAST31 <= -there <= MOST31 and second.weight_of(*other) < 2 ** 62 else sheet
+
+
+def heavy(rng, weight, depths=range(8)):
     """A sheet whose weight is 2^62, or the last below it that its scale allows."""
     while True:
-        d, k = rng.randint(2, 8), rng.randint(0, 7)
+        d, k = rng.randint(2, 8), rng.choice(depths)
         X, Y, s = square(rng, rng.randint(0, 20))
         R, named = second.limit(X, Y, s), {}
         left = weight >> (k + 1) * d
@@ -84,7 +114,7 @@ def heavy(rng, weight):
             return Sheet(d, second.terms(d, named), X, Y, s, k)
 
 
-# ---- a point and a cell of a sheet
+# ---- a point, a cell and a place of a sheet
 
 def ends(sheet, corner):
     """The least and the greatest coordinate of the closed square; for a sheet that has none, of one like it."""
@@ -96,12 +126,17 @@ def along(rng, low, high):
     return rng.choice((low, high, rng.randint(low, high), rng.randint(low, high)))
 
 
+def enough(rng, k):
+    """The entries of a place that is just long enough for a depth, or longer."""
+    return 4 ** min(k, 7) + rng.choice((0, 0, 1, rng.randint(1, 20)))
+
+
 def given(rng, sheet):
-    """A sheet with a mode, and with a cell and a point that are its own, often at an edge."""
+    """A sheet with a mode, and with a cell, a point and a place that are its own, often at an edge."""
     j = rng.randint(0, min(sheet.k, 7))
     p, q = (rng.choice((0, 2 ** j - 1, rng.randrange(2 ** j))) for _ in "pq")
     U, V = (along(rng, *ends(sheet, corner)) for corner in (sheet.X, sheet.Y))
-    return Given(sheet, U, V, rng.randint(0, 1), j, p, q)
+    return Given(sheet, U, V, rng.randint(0, 1), j, p, q, enough(rng, sheet.k))
 
 
 # ---- what a refusal is given for
@@ -143,6 +178,9 @@ def spoiled(rng, call, g, number):
         return g._replace(sheet=sheet._replace(**{name: beyond(rng, 10) if name == "s" else far(rng)}))
     if number == 5:
         return g._replace(mode=beyond(rng, 1))
+    if number == 7:
+        need = 4 ** min(sheet.k, 7)
+        return g._replace(entries=rng.choice((0, need - 1, need - 1, rng.randrange(need))))
     if number == 6:
         return given(rng, heavy(rng, 2 ** 62)) if rng.random() < 0.3 else g._replace(sheet=heavier(rng, sheet))
     name = rng.choice("UV" if call == "value" else "jpq")
@@ -155,13 +193,25 @@ def spoiled(rng, call, g, number):
 
 def random_case(rng, turn):
     """The calls, degrees and depths take turns; most cases are of accepted sheets, the others are spoiled in one way or in several."""
-    turn, at = divmod(turn, len(CALLS))
-    call, d, k = CALLS[at], turn % 9, turn // 9 % 8
+    turn, at = divmod(turn, len(SINGLE))
+    call, d, k = SINGLE[at], turn % 9, turn // 9 % 8
     g = given(rng, heavy(rng, 2 ** 62 - 1) if rng.random() < 0.04 else accepted(rng, d, k))
     fate = rng.random()
     for number in rng.sample(REFUSALS[call], 1 if fate < 0.25 else rng.randint(2, 3) if fate < 0.35 else 0):
         g = spoiled(rng, call, g, number)
     return call, arguments(call, g)
+
+
+def random_walks(rng, turn):
+    """A raster and a listing of one sheet in one mode, spoiled or not, each with a place of its own; degrees and depths take turns."""
+    d, k = turn % 9, DEPTHS[turn // 9 % len(DEPTHS)]
+    sheet = heavy(rng, 2 ** 62 - 1, (k,)) if rng.random() < 0.04 else accepted(rng, d, k)
+    g, fate = given(rng, near(rng, sheet) if rng.random() < 0.85 else sheet), rng.random()
+    for number in rng.sample(SHARED, 1 if fate < 0.2 else rng.randint(2, 3) if fate < 0.3 else 0):
+        g = spoiled(rng, "raster", g, number)
+    for call in WALKS:
+        h = g._replace(entries=enough(rng, k))
+        yield call, arguments(call, spoiled(rng, call, h, 7) if rng.random() < 0.15 else h)
 
 
 # ---- all of them
@@ -178,16 +228,56 @@ def limits():
                         yield Sheet(d, coefficients, X, Y, s, k)
 
 
-def walked():
+def tallied_cells():
     """Every cell, up to level 2, of the sheets whose tallies the page prints."""
     for _, sheet, mode, _ in second.TALLIES:
         for j in range(min(sheet[-1], 2) + 1):
             yield from (("bounds", sheet + (mode, j, p, q)) for p in range(2 ** j) for q in range(2 ** j))
 
 
+def figures():
+    """The page's figures, with the number of a place's entries for the place."""
+    for _, call, wanted, _ in second.FIGURES:
+        yield call.__name__, wanted if call.__name__ in SINGLE else wanted[:-1] + (len(wanted[-1]),)
+
+
+def lent(rng):
+    """Raster and listing at every depth in both modes, on a line, which is cheap to walk: the place is empty, short, short by one entry,
+    just long enough, and longer."""
+    for k in range(8):
+        for mode in (0, 1):
+            need, line = 4 ** k, near(rng, accepted(rng, 1, k))
+            short = {0, need - 1} | ({rng.randint(1, need - 2)} if k else set())
+            for entries in sorted(short) + [need, need + rng.randint(1, 20)]:
+                yield from ((call, tuple(line) + (mode, entries)) for call in WALKS)
+
+
+def hidden(rng):
+    """Raster and listing of A x^2 + 1, of A y^2 + 1 and of their opposites, where the cell at a level, column 0, row 0, is from -1 to 1.
+
+    As in the page's P1 and P2, mode 0 clears that cell and finds its parts open, though not visited. At least two levels follow it,
+    so that cells are left out whose own larger cell is open, and only a still larger one is not.
+    """
+    for k in range(2, 8):
+        for level in range(k - 1):
+            A, e, sign = rng.randint(5, 200), rng.choice(((2, 0), (0, 2))), rng.choice((-1, 1))
+            sheet = Sheet(2, second.terms(2, {e: sign * A, (0, 0): sign}), -1, -1, level + 1, k)
+            yield from ((call, tuple(sheet) + (mode, enough(rng, k))) for mode in (0, 1) for call in WALKS)
+
+
+def at_limits(rng):
+    """Every call on the sheets at the limits. A sheet that is refused whatever the place is lent a short one, mostly."""
+    for sheet in limits():
+        yield from ((call, arguments(call, given(rng, sheet))) for call in SINGLE)
+        g = given(rng, sheet)
+        if second.refusal(*sheet):
+            g = g._replace(entries=rng.randint(0, 20))
+        yield from ((call, arguments(call, g)) for call in WALKS)
+
+
 def all_cases(seed, count):
-    """The figures, the cells of the sheets that are walked, the limits, and so many random cases."""
+    """The figures and the cells of the sheets with printed tallies, the limits, places of every kind, walks that hide an open cell, so many
+    random cases, and a third as many walks."""
     rng = random.Random(seed)
-    cases = [(call.__name__, wanted) for _, call, wanted, _ in second.FIGURES] + list(walked())
-    cases += [(call, arguments(call, given(rng, sheet))) for sheet in limits() for call in CALLS]
-    return cases + [random_case(rng, turn) for turn in range(count)]
+    cases = [*figures(), *tallied_cells(), *at_limits(rng), *lent(rng), *hidden(rng)] + [random_case(rng, turn) for turn in range(count)]
+    return cases + [case for turn in range(count // 6) for case in random_walks(rng, turn)]

@@ -1,14 +1,19 @@
 """The proved program and the second program give the same answers.
 
-    python3 tests/compare.py [--seed S] [--cases N]     N random cases, beside the page's figures and limits
+    python3 tests/compare.py [--seed S] [--cases N]     N random cases and N/3 walks, beside the page's figures and limits
     python3 tests/compare.py --case CASE                one case again, as a disagreement prints it
 
 The program target/bin/compare is run once, on all cases of tests/cases.py; crates/compare/src says how a case and an answer are written
-in bytes. Every answer is compared with that of tests/second.py, and the tallies that the page prints are counted by walking through the
-program's verdicts. A run in which some refusal, verdict, degree or depth never came up fails, too.
+in bytes. Every answer is compared with that of tests/second.py, with every entry of a lent place as it is afterwards; and the tallies that
+the page prints are counted by walking through the program's verdicts. A run in which some refusal, verdict, degree or depth, or some kind of
+place at some depth in some mode, never came up fails, too.
 
-Then demand 3 is tried on the accepted cells, by the second program: at points with fractional coordinates in the closed cell, at its
-corners, and, where nothing bends, at the point where the value must be 0.
+Then the second program is held to the page. Demand 3 is tried on the accepted cells: at points with fractional coordinates in the closed
+cell, at its corners, and, where nothing bends, at the point where the value must be 0. Of every walk, the visited cells are those to which
+cutting open cells comes, in that order; visited is 1 plus 4 times the cells cut, and the listing unfolds to the raster.
+
+The proved program is held to the page alone, too, where it gave the raster and the listing of one sheet in one mode: its listing unfolds to
+its raster, and both tallies are counted from the records.
 """
 import argparse
 import ast
@@ -23,13 +28,23 @@ import sys
 
 sys.dont_write_bytecode = True  # nothing is left in the tree
 import second
-from cases import CALLS, COUNT, REFUSALS, all_cases
+from cases import CALLS, COUNT, ENTRIES, REFUSALS, WALKS, all_cases, filled
 
 ROOT = pathlib.Path(__file__).resolve().parent.parent
 PROGRAM = ROOT / "target" / "bin" / "compare"
 VERDICTS = {1: "above", 2: "below", 3: "open"}
-# how many numbers each call answers
-LENGTHS = {"check": 3, "value": 2, "bounds": 5}
+# how many numbers each call answers, beside a place
+LENGTHS = {"check": 3, "value": 2, "bounds": 5, "raster": 3, "listing": 4}
+# how many bytes an entry of a lent place has
+WIDTHS = {"raster": 1, "listing": 4}
+# the kinds of place: the short ones are refused by 7, and a place of no entry is the only short one at depth 0
+KINDS = {
+    "no entry": 7,
+    "one entry missing": 7,
+    "several entries missing": 7,
+    "just long enough": 0,
+    "longer": 0,
+}
 SHOWN = 5
 
 
@@ -47,9 +62,10 @@ def number(code, bits):
 def record(call, args):
     """A case in bytes."""
     d, coefficients, X, Y, s, k, *rest = args
-    mode, j, p, q = rest if call == "bounds" else (0, 0, 0, 0)
+    mode, j, p, q = rest if call == "bounds" else (rest[0] if call in WALKS else 0, 0, 0, 0)
     U, V = rest if call == "value" else (0, 0)
-    words = (CALLS.index(call), d, len(coefficients), code(X, 32), code(Y, 32), s, k, mode, j, p, q, code(U, 64), code(V, 64), 0)
+    entries = rest[1] if call in WALKS else 0
+    words = (CALLS.index(call), d, len(coefficients), code(X, 32), code(Y, 32), s, k, mode, j, p, q, code(U, 64), code(V, 64), entries)
     padded = [code(A, 32) for A in coefficients] + [0] * (COUNT - len(coefficients))
     return struct.pack(f"<11I2QI{COUNT}I", *words, *padded)
 
@@ -59,13 +75,13 @@ def answer(call, words):
     kind, *values = words
     if kind == 1 and values[0] != 0 and not any(values[1:]):
         return (values[0],) + (0,) * (LENGTHS[call] - 1)
-    used = {"check": 2, "value": 1, "bounds": 4}[call]
+    used = LENGTHS[call] - 1
     if kind != 0 or any(values[used:]):
         return "no answer", *words
-    if call == "check":
-        return 0, values[0], values[1]
     if call == "value":
         return 0, number(values[0], 64)
+    if call != "bounds":
+        return 0, *values[:used]
     verdict, lower, upper, bend = values
     return 0, VERDICTS.get(verdict), number(lower, 64), number(upper, 64), bend
 
@@ -82,6 +98,24 @@ def command(program):
     return ([emulator] if emulator.is_file() else []) + loader + [program]
 
 
+def entries_of(call, args):
+    """How many entries follow an answer: those of the place."""
+    return args[-1] if call in WALKS else 0
+
+
+def answers_in(output, cases):
+    """The answers that were written, each with its place."""
+    at = 0
+    for call, args in cases:
+        words = answer(call, struct.unpack_from("<5Q", output, at))
+        at += 40
+        if call in WALKS:
+            entries = entries_of(call, args)
+            words += ([*struct.unpack_from(f"<{entries}{'B' if call == 'raster' else 'I'}", output, at)],)
+            at += WIDTHS[call] * entries
+        yield words
+
+
 def run(program, cases):
     """The program's answers."""
     if not program.is_file():
@@ -90,9 +124,35 @@ def run(program, cases):
     ended = subprocess.run(command(program), input=b"".join(record(*case) for case in cases), capture_output=True, env=kept)
     if ended.returncode != 0:
         sys.exit(f"compare: the program ended with status {ended.returncode}: {ended.stderr.decode(errors='replace')}")
-    if len(ended.stdout) != 40 * len(cases):
-        sys.exit(f"compare: {len(cases)} answers of 40 bytes were wanted, and {len(ended.stdout)} bytes came")
-    return [answer(case[0], words) for case, words in zip(cases, struct.iter_unpack("<5Q", ended.stdout))]
+    length = sum(40 + WIDTHS.get(call, 0) * entries_of(call, args) for call, args in cases)
+    if len(ended.stdout) != length:
+        sys.exit(f"compare: the answers to {len(cases)} cases have {length} bytes with their places, and {len(ended.stdout)} bytes came")
+    return list(answers_in(ended.stdout, cases))
+
+
+# ---- the second program
+
+def second_answer(call, args):
+    """What the second program answers, its lent place filled by the same rule."""
+    return getattr(second, call)(*args[:-1], filled(call, args[-1])) if call in WALKS else getattr(second, call)(*args)
+
+
+def walk_of(args):
+    """What a raster and a listing of one walk are both given: the sheet and the mode."""
+    d, coefficients, *rest, _ = args
+    return d, tuple(coefficients), *rest
+
+
+def second_answers(cases):
+    """The answers, what is wrong with the walks, and how many they are. A walk is looked at when it is answered: it is kept only for a while."""
+    expected, walks = [], {}
+    for call, args in cases:
+        expected.append(second_answer(call, args))
+        if call in WALKS and expected[-1][0] == 0:
+            walk = walk_of(args)
+            if walk not in walks:
+                walks[walk] = (call, args), second.walk_fault(*walk)
+    return expected, [(case, fault) for case, fault in walks.values() if fault], len(walks)
 
 
 # ---- the comparison
@@ -101,10 +161,20 @@ def shown(call, args):
     return f"{call}({', '.join(map(str, args))})"
 
 
+def brief(answered, other):
+    """An answer, in few words: of a place, the first entry in which it and another differ."""
+    *numbers, place = answered
+    if not isinstance(place, list):
+        return str(answered)
+    at = next((i for i, pair in enumerate(zip(place, other[-1])) if pair[0] != pair[1]), None)
+    return f"{(*numbers,)}, " + ("the same place" if at is None else f"entry {at} of {len(place)} is {place[at]}")
+
+
 def disagreements(cases, answers, expected):
     wrong = [row for row in zip(cases, answers, expected) if row[1] != row[2]]
     for case, got, wanted in wrong[:SHOWN]:
-        print(f"disagreement on --case '{shown(*case)}'\n    the proved program: {got}\n    the second program: {wanted}")
+        print(f"disagreement on --case '{shown(*case)}'")
+        print(f"    the proved program: {brief(got, wanted)}\n    the second program: {brief(wanted, got)}")
     return len(wrong)
 
 
@@ -118,6 +188,8 @@ def met(call, args, answered):
         if short == 0 or refusal == 0 and weight > 0 and short <= 2 ** ((k + 1) * d):
             yield call, "weight at the limit" if short == 0 else "weight just below the limit"
     yield (call, "refused by", refusal) if refusal else (call, "accepted")
+    if call in WALKS:
+        yield from met_of_place(call, k, rest[0], args[-1], refusal)
     if refusal:
         return
     yield call, "degree and depth", d, k
@@ -129,9 +201,54 @@ def met(call, args, answered):
         yield call, "level", rest[1]
         if bend == 0:
             yield call, "no bend", verdict
+    if call in WALKS:
+        yield call, "depth", k, "mode", rest[0], "accepted"
+    if call == "raster":
+        yield from ((call, "depth", k, "mode", rest[0], "colour", colour) for colour in set(values[-1][:4 ** k]))
+    if call == "listing":
+        records = values[-1][:values[0]]
+        seen = {(second.cell_of(record)[0], record % 4) for record in records}
+        yield from ((call, "mode", rest[0], "level", j, "colour", colour) for j, colour in seen)
+        if k <= 4:
+            yield from ((call, "an open part within a cell cleared at level", j) for j in hiding(args, records))
+
+
+def hiding(args, records):
+    """The levels of the cleared cells, two or more above the finest, a part of which is open by its own bounds."""
+    *sheet, k, mode, _ = args
+    cleared = [second.cell_of(record) for record in records if record % 4 != 1]
+    return {at[0] for at in cleared if at[0] + 2 <= k
+            and any(second.bounds(*sheet, k, mode, *part)[1] == "open" for part in second.parts(*at))}
+
+
+def met_of_place(call, k, mode, entries, refusal):
+    """What a place shows: how long it is for its depth, and that the refusals before 7 are given though it is too short."""
+    need = 4 ** min(k, 8)
+    if refusal in (0, 7):
+        kind = ("no entry" if entries == 0 else "one entry missing" if entries == need - 1 else "several entries missing" if entries < need
+                else "just long enough" if entries == need else "longer")
+        yield call, "depth", k, "mode", mode, "a place", kind, refusal
+    elif entries < need:
+        yield call, "a place too short, refused by", refusal
+
+
+def wanted_of_walks():
+    for call in WALKS:
+        yield from ((call, "a place too short, refused by", refusal) for refusal in range(1, 7))
+        for k in range(8):
+            for mode in (0, 1):
+                yield call, "depth", k, "mode", mode, "accepted"
+                yield from ((call, "depth", k, "mode", mode, "a place", kind, refusal) for kind, refusal in KINDS.items()
+                            if k > 0 or "missing" not in kind)
+    for mode in (0, 1):
+        for j in range(8):
+            yield from (("raster", "depth", j, "mode", mode, "colour", colour) for colour in (1, 2, 3))
+            yield from (("listing", "mode", mode, "level", j, "colour", colour) for colour in (1, 2, 3))
+    yield from (("listing", "an open part within a cell cleared at level", j) for j in range(3))
 
 
 def wanted():
+    yield from wanted_of_walks()
     for call in CALLS:
         yield call, "accepted"
         yield from ((call, "refused by", refusal) for refusal in REFUSALS[call])
@@ -162,6 +279,34 @@ def tallies(cases, answers):
         found = second.tally(lambda j, p, q: told.get(shown("bounds", sheet + (mode, j, p, q)), (0, None))[1], sheet[-1])
         if found != counted:
             yield f"{name}: a walk in mode {mode} counts {found}, and the page says {counted}"
+
+
+# ---- the proved program's walks
+
+def pair_fault(k, raster, listing):
+    """What is wrong between a raster and a listing of one walk, or nothing."""
+    _, *tally, place = raster
+    _, length, *listed, entries = listing
+    records = entries[:length]
+    if second.unfolded(records, k) != place[:4 ** k]:
+        return "the listing does not unfold to the raster"
+    cut = {larger for record in records for larger in second.enclosing(*second.cell_of(record))}
+    counted = [1 + 4 * len(cut), sum(record % 4 == 1 for record in records)]
+    if tally != counted or listed != counted:
+        return f"the tallies are {tally} and {listed}, and the records count {counted}"
+    if 3 * counted[0] != 4 * length - 1:
+        return f"{length} records are written, and {counted[0]} cells are visited"
+    return None
+
+
+def pairs(cases, answers):
+    """The walks of which both raster and listing were answered, and what is wrong between the first of each, or nothing."""
+    first = {call: {} for call in WALKS}
+    for (call, args), answered in zip(cases, answers):
+        if call in WALKS and answered[0] == 0:
+            first[call].setdefault(walk_of(args), answered)
+    rasters, listings = first["raster"], first["listing"]
+    return {walk: pair_fault(walk[5], rasters[walk], listings[walk]) for walk in rasters if walk in listings}
 
 
 # ---- demand 3
@@ -212,7 +357,11 @@ def main():
         cases = [(call, ast.literal_eval("(" + args))]
     else:
         cases = all_cases(chosen.seed, chosen.cases)
-    expected = [getattr(second, call)(*args) for call, args in cases]
+    if any(entries_of(*case) > ENTRIES for case in cases):
+        sys.exit(f"compare: a place has at most {ENTRIES} entries")
+    expected, faults, walks = second_answers(cases)
+    for case, fault in faults[:SHOWN]:
+        print(f"the second program's walk is wrong on --case '{shown(*case)}': {fault}")
     answers = run(chosen.program, cases)
     wrong = disagreements(cases, answers, expected)
     cells = [(args, answered) for (call, args), answered in zip(cases, expected) if call == "bounds" and answered[0] == 0]
@@ -220,19 +369,26 @@ def main():
     broken = [(args, fault) for args, answered in cells if (fault := demand_3(rng, args, answered))]
     for args, fault in broken[:SHOWN]:
         print(f"demand 3 does not hold on --case '{shown('bounds', args)}': {fault}")
+    paired = pairs(cases, answers)
+    unlike = [(walk, fault) for walk, fault in paired.items() if fault]
+    for walk, fault in unlike[:SHOWN]:
+        print(f"the proved program's raster and listing of {walk} are not of one walk: {fault}")
     if chosen.case:
-        print(f"the second program: {expected[0]}")
+        print(f"the second program: {brief(expected[0], answers[0])}")
         missing, miscounted = [], []
     else:
+        compared = {walk[-2:] for walk in paired}
         missing = tally(cases, expected)
+        missing += [f"raster and listing of one walk, depth {k} mode {mode}" for k in range(8) for mode in (0, 1) if (k, mode) not in compared]
         for thing in missing:
             print(f"never came up: {thing}")
         miscounted = list(tallies(cases, answers))
         for fault in miscounted:
             print(fault)
     print(f"compare: seed {chosen.seed}, {len(cases) - wrong} of {len(cases)} answers agree, "
-          f"demand 3 holds on {len(cells) - len(broken)} of {len(cells)} cells")
-    return 1 if wrong or broken or missing or miscounted else 0
+          f"demand 3 holds on {len(cells) - len(broken)} of {len(cells)} cells, {walks - len(faults)} of {walks} walks are as the page says, "
+          f"the proved listing unfolds to the proved raster on {len(paired) - len(unlike)} of {len(paired)}")
+    return 1 if wrong or broken or faults or unlike or missing or miscounted else 0
 
 
 if __name__ == "__main__":

@@ -1,12 +1,18 @@
-"""The second program: the calls check, value and bounds, worked out from the definition page alone.
+"""The second program: the calls check, value, bounds, raster and listing, worked out from the definition page alone.
 
-Plain exact whole numbers, in the page's order and by the page's formulas, with no thought for speed or for the size of
-a number. It shares nothing with the proved crates, so that where the two agree neither leans on the other.
+Plain exact whole numbers, in the page's order and by the page's formulas, with no thought for the size of a number and little for
+speed. It shares nothing with the proved crates, so that where the two agree neither leans on the other.
 
-An answer begins with a number: 0 where the sheet is accepted, else the number of the refusal with zeros beside it.
+Of a walk, the answers come from the page's definition at every depth: the cells of all levels are listed in walking order, and those all of
+whose larger enclosing cells are open are the visited ones. The quick way, to cut open cells and go on with their parts, is `stepped`. No answer
+comes from it: `walk_fault` compares the two.
+
+An answer begins with a number: 0 where the sheet is accepted, else the number of the refusal with zeros beside it. Where a place is lent,
+the answer ends with all of the place's entries as they are afterwards.
 
     python3 tests/second.py     holds the program to the figures that the page prints
 """
+import functools
 import sys
 from math import comb
 
@@ -16,9 +22,10 @@ LIMIT = 2 ** 62
 
 # ---- what a sheet holds
 
+@functools.cache
 def exponents(d):
     """The pairs (i, j) with i + j at most d, in the order of the coefficients."""
-    return [(i, j) for i in range(d + 1) for j in range(d - i + 1)]
+    return tuple((i, j) for i in range(d + 1) for j in range(d - i + 1))
 
 
 def table(d, coefficients):
@@ -41,12 +48,20 @@ def cell(X, Y, s, k, j, p, q):
 
 
 def local_form(d, coefficients, k, U0, V0, H):
-    """G(a,b), under its exponents: F(U0 + H e, V0 + H g) is the sum of G(a,b) e^a g^b."""
-    A = table(d, coefficients)
-    return {(a, b): sum(A[i, j] * 2 ** ((k + 1) * (d - i - j)) * comb(i, a) * comb(j, b)
-                        * U0 ** (i - a) * V0 ** (j - b) * H ** (a + b)
-                        for (i, j) in exponents(d) if i >= a and j >= b)
-            for (a, b) in exponents(d)}
+    """G(a,b), under its exponents: F(U0 + H e, V0 + H g) is the sum of G(a,b) e^a g^b.
+
+    Each A(i,j) that is not 0 is shared out to the places (a, b) with a at most i and b at most j.
+    """
+    U, V, side = ([z ** n for n in range(d + 1)] for z in (U0, V0, H))
+    G = dict.fromkeys(exponents(d), 0)
+    for (i, j), A in table(d, coefficients).items():
+        if A != 0:
+            scaled = A * 2 ** ((k + 1) * (d - i - j))
+            for a in range(i + 1):
+                column = scaled * comb(i, a) * U[i - a]
+                for b in range(j + 1):
+                    G[a, b] += column * comb(j, b) * V[j - b] * side[a + b]
+    return G
 
 
 # ---- the two bounds of a cell
@@ -55,7 +70,7 @@ def two_bounds(G, mode):
     """The lower and the upper bound of a local form."""
     lower = upper = G[0, 0]
     for (a, b), g in G.items():
-        if (a, b) == (0, 0):
+        if g == 0 or (a, b) == (0, 0):  # a place of 0 moves neither bound
             continue
         if mode == 0 and a % 2 == 0 and b % 2 == 0:
             lower += min(0, g)
@@ -72,6 +87,133 @@ def bend_of(G):
 
 def verdict_of(lower, upper):
     return "above" if lower > 0 else "below" if upper < 0 else "open"
+
+
+# ---- walking the sheet
+
+COLOURS = {"open": 1, "above": 2, "below": 3}
+
+
+def parts(j, p, q):
+    """The four cells that a cell is cut into: lower left, lower right, upper left, upper right."""
+    return [(j + 1, x, y) for y in (2 * q, 2 * q + 1) for x in (2 * p, 2 * p + 1)]
+
+
+@functools.cache
+def enclosing(j, p, q):
+    """The larger cells that enclose a cell, from level 0 on."""
+    return tuple((level, p >> (j - level), q >> (j - level)) for level in range(j))
+
+
+def walking_order(j, p, q):
+    """The quarter that is taken at each level from 0 on: 0 lower left, 1 lower right, 2 upper left, 3 upper right.
+
+    Of two cells the one with the smaller sequence comes first, and a cell comes before its parts.
+    """
+    return tuple(2 * (q >> left & 1) + (p >> left & 1) for left in reversed(range(j)))
+
+
+@functools.cache
+def every_cell(k):
+    """The cells of all levels, in walking order."""
+    cells = [(j, p, q) for j in range(k + 1) for q in range(2 ** j) for p in range(2 ** j)]
+    return sorted(cells, key=lambda at: walking_order(*at))
+
+
+def visited_cells(verdict, k):
+    """The definition: of all cells those all of whose larger enclosing cells are open, with their verdicts, in walking order.
+
+    The verdict on a cell is a function of its level, column and row. It is asked at most once of each cell.
+    """
+    verdict = functools.cache(verdict)
+    return {at: verdict(*at) for at in every_cell(k) if all(verdict(*larger) == "open" for larger in enclosing(*at))}
+
+
+def stepped(found, k, at=(0, 0, 0)):
+    """The quick way: the cells that one comes to by cutting open cells above the finest level, in that order, by the verdicts found."""
+    yield at
+    if found.get(at) == "open" and at[0] < k:
+        for part in parts(*at):
+            yield from stepped(found, k, part)
+
+
+def cut_cells(found, k):
+    """The visited cells that are cut: the open ones above the finest level."""
+    return [at for at, verdict in found.items() if verdict == "open" and at[0] < k]
+
+
+def tally_of(found, k):
+    """Visited and coloured."""
+    return len(found), sum(verdict == "open" for at, verdict in found.items() if at[0] == k)
+
+
+def raster_of(found, k):
+    """The bytes of the finest cells, row after row from the bottom. The parts of a cell that is cleared are covered by it."""
+    covering = {(0, 0): found[0, 0, 0]}
+    for j in range(1, k + 1):
+        larger, covering = covering, {}
+        for q in range(2 ** j):
+            for p in range(2 ** j):
+                over = larger[p // 2, q // 2]
+                covering[p, q] = found[j, p, q] if over == "open" else over
+    return [COLOURS[covering[p, q]] for q in range(2 ** k) for p in range(2 ** k)]
+
+
+def listing_of(found, k):
+    """The records of the visited cells, in walking order, without those that are cut."""
+    return [COLOURS[verdict] + 4 * p + 512 * q + 65536 * j for (j, p, q), verdict in found.items() if verdict != "open" or j == k]
+
+
+def cell_of(record):
+    """The level, column and row in a record."""
+    return record // 65536, record // 4 % 128, record // 512 % 128
+
+
+def unfolded(records, k):
+    """The raster that a listing tells: each record's colour at each finest cell of its cell, and None where no record tells of one.
+
+    There is none where a record is of no cell of the sheet, or where two tell of one finest cell.
+    """
+    told = [None] * 4 ** k
+    for record in records:
+        j, p, q = cell_of(record)
+        if j > k or p >= 2 ** j or q >= 2 ** j:
+            return None
+        side = 2 ** (k - j)
+        for row in range(q * side, (q + 1) * side):
+            run = slice(row * 2 ** k + p * side, row * 2 ** k + (p + 1) * side)
+            if told[run] != [None] * side:
+                return None
+            told[run] = [record % 4] * side
+    return told
+
+
+def tally(verdict, k):
+    return tally_of(visited_cells(verdict, k), k)
+
+
+@functools.lru_cache(maxsize=8)
+def walked(d, coefficients, X, Y, s, k, mode):
+    """The visited cells of an accepted sheet: each cell's bounds are worked out once, for raster and listing both."""
+    def verdict(j, p, q):
+        return verdict_of(*two_bounds(local_form(d, coefficients, k, *cell(X, Y, s, k, j, p, q)), mode))
+    return visited_cells(verdict, k)
+
+
+def walk_fault(d, coefficients, X, Y, s, k, mode):
+    """What the page says of every walk and this one does not keep, or nothing."""
+    found = walked(d, tuple(coefficients), X, Y, s, k, mode)
+    if list(stepped(found, k)) != list(found):
+        return "cutting open cells comes to other cells than the definition names, or in another order"
+    visited, cut = len(found), len(cut_cells(found, k))
+    if visited != 1 + 4 * cut or not 1 <= visited <= (4 ** (k + 1) - 1) // 3:
+        return f"{visited} cells are visited, and {cut} are cut"
+    records = listing_of(found, k)
+    if len(records) != visited - cut:
+        return f"{visited} cells are visited, {cut} are cut, and {len(records)} are listed"
+    if unfolded(records, k) != raster_of(found, k):
+        return "the listing does not unfold to the raster"
+    return None
 
 
 # ---- weight
@@ -97,11 +239,12 @@ def outside(low, value, high):
     return value < low or value > high
 
 
-def refusal(d, coefficients, X, Y, s, k, mode=None, at=None, point=None):
+def refusal(d, coefficients, X, Y, s, k, mode=None, entries=None, at=None, point=None):
     """The number of the first condition that holds, or 0. A call leaves out what it has no input for.
 
     Each condition is looked at only where none before it holds: a degree or a depth may be any 32-bit number, and
-    the powers that later conditions speak of are then out of reach.
+    the powers that later conditions speak of are then out of reach. Condition 9 is tried by the calls that are lent
+    a place, since only they walk; it never holds: at depth 7, 21,845 cells are all.
     """
     def cell_outside():
         j, p, q = at
@@ -118,7 +261,9 @@ def refusal(d, coefficients, X, Y, s, k, mode=None, at=None, point=None):
         (4, lambda: outside(-COORDINATE, X, COORDINATE) or outside(-COORDINATE, Y, COORDINATE) or s > 10),
         (5, lambda: mode is not None and mode not in (0, 1)),
         (6, lambda: weight_of(d, coefficients, X, Y, s, k) >= LIMIT),
+        (7, lambda: entries is not None and entries < 4 ** k),
         (8, lambda: at is not None and cell_outside() or point is not None and point_outside()),
+        (9, lambda: entries is not None and len(walked(d, tuple(coefficients), X, Y, s, k, mode)) > 65_535),
     ]
     return next((number for number, holds in conditions if holds()), 0)
 
@@ -150,6 +295,26 @@ def bounds(d, coefficients, X, Y, s, k, mode, j, p, q):
     return 0, verdict_of(lower, upper), lower, upper, bend_of(G)
 
 
+def raster(d, coefficients, X, Y, s, k, mode, place):
+    """(number, visited, coloured, the place afterwards)"""
+    number = refusal(d, coefficients, X, Y, s, k, mode=mode, entries=len(place))
+    if number:
+        return number, 0, 0, place
+    found = walked(d, tuple(coefficients), X, Y, s, k, mode)
+    colours = raster_of(found, k)
+    return 0, *tally_of(found, k), colours + place[len(colours):]
+
+
+def listing(d, coefficients, X, Y, s, k, mode, place):
+    """(number, length, visited, coloured, the place afterwards)"""
+    number = refusal(d, coefficients, X, Y, s, k, mode=mode, entries=len(place))
+    if number:
+        return number, 0, 0, 0, place
+    found = walked(d, tuple(coefficients), X, Y, s, k, mode)
+    records = listing_of(found, k)
+    return 0, len(records), *tally_of(found, k), records + place[len(records):]
+
+
 # ---- the page's own figures
 
 def terms(d, named):
@@ -175,6 +340,14 @@ P11 = sheet(0, {(0, 0): 1}, 1_048_576, 0, 0)
 P11_REFUSED = sheet(0, {(0, 0): 1}, 1_048_577, 0, 0)
 P12 = sheet(8, {}, 0, 0, 7)
 
+# the records of four coloured cells at level 1, as the whole case prints them: (p, q) is (0, 0), (1, 0), (0, 1), (1, 1)
+QUARTERS = [65536 + 1, 65536 + 4 + 1, 65536 + 512 + 1, 65536 + 512 + 4 + 1]
+# P5's raster, the bottom row first: coloured along the diagonal, 2 where x - y is above 0, and 3 where it is below
+DIAGONAL = [1, 1, 2, 2,
+            1, 1, 1, 2,
+            3, 1, 1, 1,
+            3, 3, 1, 1]
+
 # a call, what it is given, and the part of its answer that the page prints or that follows from it at once (None: neither)
 FIGURES = [
     ("P1", check, P1, (0, 144, 54)),
@@ -196,6 +369,22 @@ FIGURES = [
     ("P11", check, P11, (0, None, None)),
     ("P11", check, P11_REFUSED, (4, 0, 0)),
     ("P12", check, P12, (0, 0, 62)),
+    ("P1", raster, P1 + (0, [9] * 4), (0, 1, 0, [2] * 4)),
+    ("P1", listing, P1 + (0, [9] * 4), (0, 1, 1, 0, [2] + [9] * 3)),
+    ("P3", raster, P1 + (1, [9] * 4), (0, 5, 4, [1] * 4)),
+    ("P3", listing, P1 + (1, [9] * 4), (0, 4, 5, 4, QUARTERS)),
+    *(("P4", raster, P4 + (mode, [9] * 4), (0, 5, 4, [1] * 4)) for mode in (0, 1)),
+    *(("P4", listing, P4 + (mode, [9] * 4), (0, 4, 5, 4, QUARTERS)) for mode in (0, 1)),
+    ("whole case", listing, P4 + (0, [9] * 6), (0, 4, 5, 4, QUARTERS + [9] * 2)),
+    *(("P5", raster, P5 + (mode, [9] * 16), (0, 21, 10, DIAGONAL)) for mode in (0, 1)),
+    *(("P5", listing, P5 + (mode, [9] * 16), (0, 16, 21, 10, None)) for mode in (0, 1)),
+    *(("P6", raster, P6 + (mode, [9]), (0, 1, 1, [1])) for mode in (0, 1)),
+    *(("P7", raster, P7 + (mode, [9] * 16384), (0, 1, 0, [3] * 16384)) for mode in (0, 1)),
+    *(("P7", listing, P7 + (mode, [9] * 16384), (0, 1, 1, 0, [3] + [9] * 16383)) for mode in (0, 1)),
+    ("P13", raster, P4 + (0, [9] * 3), (7, 0, 0, [9] * 3)),
+    ("P13", listing, P4 + (0, [9] * 3), (7, 0, 0, 0, [9] * 3)),
+    ("P13", raster, P4 + (0, [9] * 5), (0, 5, 4, [1] * 4 + [9])),
+    ("P13", listing, P4 + (0, [9] * 5), (0, 4, 5, 4, QUARTERS + [9])),
     *(("P12", check, sheet(8, {e: sign}, 0, 0, 7), (6, 0, 0)) for e in exponents(8) for sign in (1, -1)),
 ]
 
@@ -210,16 +399,6 @@ TALLIES = [
 ]
 
 
-def tally(verdict, k, j=0, p=0, q=0):
-    """Visited and coloured from a cell on, by a function from level, column and row to a verdict."""
-    if verdict(j, p, q) != "open":
-        return 1, 0
-    if j == k:
-        return 1, 1
-    parts = [tally(verdict, k, j + 1, x, y) for y in (2 * q, 2 * q + 1) for x in (2 * p, 2 * p + 1)]
-    return 1 + sum(visited for visited, _ in parts), sum(coloured for _, coloured in parts)
-
-
 def main():
     wrong = 0
     for name, given, mode, counted in TALLIES:
@@ -227,13 +406,17 @@ def main():
         if answer != counted:
             print(f"{name}: a walk in mode {mode} counts {answer}, and the page says {counted}")
             wrong += 1
+        fault = walk_fault(*given, mode)
+        if fault:
+            print(f"{name}: in mode {mode} {fault}")
+            wrong += 1
     for name, call, given, printed in FIGURES:
         answer = call(*given)
         if len(answer) != len(printed) or any(p is not None and p != a for a, p in zip(answer, printed)):
             print(f"{name}: {call.__name__}{given} answers {answer}, and the page says {printed}")
             wrong += 1
-    figures = len(FIGURES) + len(TALLIES)
-    print(f"second program: {figures - wrong} of {figures} of the page's figures hold")
+    figures = len(FIGURES) + 2 * len(TALLIES)
+    print(f"second program: {figures - wrong} of {figures} of the page's figures and of what it says of every walk hold")
     return 1 if wrong else 0
 
 

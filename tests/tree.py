@@ -18,7 +18,7 @@ import sys
 
 ROOT = pathlib.Path(__file__).resolve().parent.parent
 LONGEST = 400
-CALLS = ("sheet",)
+CALLS = ("sheet", "walk")
 CITED = re.compile(r"`(crates/[^`]+\.antt)`((?:,?\s+`[^`/]+`)+)")
 PLACES = re.compile("/(?:" + "|".join(("opt", "home", "root", "work", "tmp", "usr")) + ")/")
 
@@ -146,8 +146,8 @@ def contracts():
             statement = found[2]
             while re.search(r"\([^()]*\)", statement):
                 statement = re.sub(r"\([^()]*\)", "_", statement)
-            # a name, what it is applied to, and the outcome last: no second statement beside it
-            promise = re.fullmatch(rf"(\w+)(?: \w+)* {found[1]}", statement)
+            # a name, what it is applied to, and the outcome last, with the place afterwards where one is lent: no second statement beside it
+            promise = re.fullmatch(rf"(\w+)(?: \w+)* {found[1]}(?: _)?", statement)
             name = promise[1] if promise else None
             if not name or not re.search(rf"^(?:(?:abbrev|unfoldable) )*pub {name} : ", promised, re.M) or not brings(path, crate, "Promises", name):
                 yield f"{crate}::{call} ensures what is no promise of crates/{crate}/specs/Promises.antt"

@@ -1,6 +1,6 @@
 -- What a Boolean test decides.
-use mathlib.Core.Path.{_≡_, refl}
-use mathlib.Core.Bool.{Bool, true, false, not, _&&_, cond}
+use mathlib.Core.Path.{_≡_, refl, sym}
+use mathlib.Core.Bool.{Bool, true, false, not, _&&_, cond, false≢true}
 use lib.Dec.{T}
 
 -- a property of `cond c x y`, by the two outcomes of the test c
@@ -13,7 +13,36 @@ pub cond-ap : {X Y : Type 0} (f : X → Y) (c : Bool) (x y : X) → f (cond c x 
 cond-ap f true x y = refl
 cond-ap f false x y = refl
 
--- both parts of a conjunction
+-- what is taken where the test holds may be rewritten where it holds
+pub cond-when : {X : Type 0} (c : Bool) {x y : X} (z : X) → (c ≡ true → x ≡ y) → cond c x z ≡ cond c y z
+cond-when true z h = h refl
+cond-when false z h = refl
+
+-- a choice by two tests
+pub cond-both : {X : Type 0} (a b : Bool) (x y : X) → cond a (cond b x y) y ≡ cond (a && b) x y
+cond-both true b x y = refl
+cond-both false b x y = refl
+
+-- two tests are the same where each follows from the other
+pub same-test : (a b : Bool) → (a ≡ true → b ≡ true) → (b ≡ true → a ≡ true) → a ≡ b
+same-test true b f g = sym (f refl)
+same-test false true f g = g refl
+same-test false false f g = refl
+
+-- ---- both parts of a conjunction
+pub and-left : (a b : Bool) → (a && b) ≡ true → a ≡ true
+and-left true b e = refl
+and-left false b e = e
+
+pub and-right : (a b : Bool) → (a && b) ≡ true → b ≡ true
+and-right true b e = e
+and-right false b e = absurd (false≢true e)
+
+pub and-both : (a b : Bool) → a ≡ true → b ≡ true → (a && b) ≡ true
+and-both true b e f = f
+and-both false b e f = absurd (false≢true e)
+
+-- the same for tests as types
 pub and-l : (x y : Bool) → T (x && y) → T x
 and-l true y t = tt
 and-l false y t = t

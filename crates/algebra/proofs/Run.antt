@@ -7,6 +7,7 @@ use native.Mathlib.Nat as Nat
 use native.Mathlib.Decide.{decLe}
 use native.Mathlib.Omega.{arith}
 use lib.IntN.{ℤ, pos, _+ℤ_, natAbs, +ℤ-idl, +ℤ-idr}
+use lib.ListN.{length}
 use Rattle.algebra.specs.Sum.{sum, sumℕ, run, span, _⋯_}
 use Rattle.algebra.proofs.Sum.{sum-cong, sum-zero, sum-map, sum-++, pos-sumℕ, sumℕ-part}
 
@@ -42,6 +43,12 @@ unfolding _⋯_
 pub member-⋯ : (a b i : ℕ) → a ≤ i → i ≤ b → List·Memᴰ i (a ⋯ b)
 unfolding _⋯_
 member-⋯ a b i h k = member-span a _ i h (omega arith)
+
+-- ---- how many
+pub length-run : (a n : ℕ) → length (run a n) ≡ n
+unfolding run
+length-run a zero = refl
+length-run a (suc n) = ap suc (length-run (suc a) n)
 
 -- ---- their parts
 run-++ : (a m n : ℕ) → run a (m + n) ≡ run a m ++ run (a + m) n

@@ -82,6 +82,13 @@ module _ {ℓ} {A : Type ℓ} where
   pub sumℕ-++ : (xs ys : List A) (f : A → ℕ) → sumℕ (xs ++ ys) f ≡ sumℕ xs f + sumℕ ys f
   sumℕ-++ xs ys f = ap natAbs (pos-sumℕ (xs ++ ys) f ∙ sum-++ xs ys (λ x. pos (f x)) ∙ sym (ap₂ _+ℤ_ (pos-sumℕ xs f) (pos-sumℕ ys f)))
 
+  pub sumℕ-+ : (xs : List A) (f g : A → ℕ) → sumℕ xs (λ x. f x + g x) ≡ sumℕ xs f + sumℕ xs g
+  sumℕ-+ xs f g = ap natAbs (pos-sumℕ xs (λ x. f x + g x) ∙ sum-+ xs (λ x. pos (f x)) (λ x. pos (g x)) ∙ sym (ap₂ _+ℤ_ (pos-sumℕ xs f) (pos-sumℕ xs g)))
+
+  -- a sum of zeros
+  pub sumℕ-zero : (xs : List A) {f : A → ℕ} → ((x : A) → List·Memᴰ x xs → f x ≡ 0) → sumℕ xs f ≡ 0
+  sumℕ-zero xs h = sumℕ-cong xs h ∙ ap natAbs (pos-sumℕ xs (λ x. 0) ∙ sum-zero xs)
+
   pub *-sumℕ : (c : ℕ) (xs : List A) (f : A → ℕ) → c * sumℕ xs f ≡ sumℕ xs (λ x. c * f x)
   *-sumℕ c xs f = ap natAbs (ap (λ x. pos c *ℤ x) (pos-sumℕ xs f) ∙ *ℤ-sum (pos c) xs (λ x. pos (f x)) ∙ sym (pos-sumℕ xs (λ x. c * f x)))
 

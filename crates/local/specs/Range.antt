@@ -12,8 +12,8 @@ use Rattle.forms.specs.Bounds.{Mode, affine, centred, low, high, bent}
 use Rattle.local.specs.declared.Form.{Form}
 use Rattle.local.specs.declared.Range.{Range}
 use Rattle.local.specs.declared.Spread.{Spread}
-use Rattle.local.specs.declared.Verdict.{Verdict}
-use Rattle.local.specs.declared.Verdict.the-variants.{Above, Below, Open}
+use Rattle.verdicts.specs.declared.Verdict.{Verdict}
+use Rattle.verdicts.specs.declared.Verdict.the-variants.{Above, Below, Open}
 use Rattle.local.specs.Horner.{row-of}
 use Rattle.local.specs.Table.{held}
 

@@ -7,18 +7,12 @@ mod table;
 pub use measure::centre_of;
 pub use measure::local_range;
 pub use table::local_form;
+use verdicts::Verdict;
 
 // The degree and 45 places, of which those not used are zero.
 pub struct Form {
     pub degree: u32,
     pub places: [i64; 45],
-}
-
-// The verdict on a cell.
-pub enum Verdict {
-    Above { lower: i64, upper: i64 },
-    Below { lower: i64, upper: i64 },
-    Open { lower: i64, upper: i64 },
 }
 
 // How far the values of a form reach below and above its centre, and its bend.

@@ -2,7 +2,7 @@
 use crate::Form;
 use crate::Range;
 use crate::Spread;
-use crate::Verdict;
+use verdicts::Verdict;
 ghost use mathlib.Core.Path.{_≡_};
 ghost use Prim.Native.Nat.{_+_, _^_, _≤_, _<_};
 ghost use lib.IntN.{natAbs};

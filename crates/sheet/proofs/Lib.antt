@@ -1,11 +1,2 @@
 pub mod Promises
-pub mod Rows
-pub mod Weights
-pub mod Scaling
-pub mod Cells
-pub mod Page
-pub mod Demand3
-pub mod Forms
-pub mod Facts
-pub mod Edges
 pub mod Samples

@@ -1,25 +1,21 @@
 -- The promises of the calls: what an answer states is the page's number and values, and no second outcome satisfies a promise.
 use mathlib.Core.Path.{_≡_, refl, sym, _∙_, ap}
 use mathlib.Core.Bool.{Bool, true, false, cond}
-use Prim.Native.Nat.{ℕ, zero, suc}
+use Prim.Native.Nat.{ℕ}
 use lib.IntN.{ℤ, pos}
 use lib.Signed.{ltZ}
-use Rattle.local.specs.declared.Verdict.the-variants.{Above, Below, Open}
+use Rattle.verdicts.specs.declared.Verdict.the-variants.{Above, Below, Open}
 use Rattle.local.specs.Range.{judged}
 use Rattle.sheet.specs.declared.Checked.{Checked}
 use Rattle.sheet.specs.declared.Valued.{Valued}
 use Rattle.sheet.specs.declared.Bounded.{Bounded}
 use Rattle.sheet.specs.declared.Bounded.the-variants.{Cell}
-use Rattle.sheet.specs.Sheet.{Sheet, mode-of}
-use Rattle.sheet.specs.Bounds.{lower, upper, bend}
-use Rattle.sheet.specs.Refusals.{refusal}
-use Rattle.sheet.specs.Answers.{unless, checked, states-weight, weighed, to-check, valued, states-value, evaluated, at-point, bounded, states-bounds, measured, in-cell}
+use Rattle.page.specs.Sheet.{Sheet, mode-of}
+use Rattle.page.specs.Bounds.{lower, upper, bend}
+use Rattle.page.specs.Refusals.{refusal, unless, to-check, at-point, in-cell}
+use Rattle.page.proofs.Rows.{unless-ap}
+use Rattle.sheet.specs.Answers.{checked, states-weight, weighed, valued, states-value, evaluated, bounded, states-bounds, measured}
 use Rattle.sheet.specs.Promises.{CheckPromise, ValuePromise, BoundsPromise, OneCheck, OneValue, OneBounds}
-
--- a function of an answer is the answer of the function
-unless-ap : {X Y : Type 0} (f : X → Y) (n : ℕ) (r : ℕ → X) (v : X) → f (unless n r v) ≡ unless n (λ m. f (r m)) (f v)
-unless-ap f zero r v = refl
-unless-ap f (suc n) r v = refl
 
 -- ---- what each call's answer states
 pub check-states : (S : Sheet) → states-weight (checked S) ≡ weighed S

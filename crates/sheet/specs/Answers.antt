@@ -1,28 +1,20 @@
 -- The answers of the calls: the values, or a refusal's number with zeros.
-use Prim.Native.Nat.{ℕ, zero, suc}
+use Prim.Native.Nat.{ℕ}
 use lib.IntN.{ℤ, pos}
-use Rattle.local.specs.declared.Verdict.the-variants.{Above, Below, Open}
+use Rattle.verdicts.specs.declared.Verdict.the-variants.{Above, Below, Open}
 use Rattle.sheet.specs.declared.Checked.{Checked}
 use Rattle.sheet.specs.declared.Checked.the-variants as Checked
 use Rattle.sheet.specs.declared.Valued.{Valued}
 use Rattle.sheet.specs.declared.Valued.the-variants as Valued
 use Rattle.sheet.specs.declared.Bounded.{Bounded}
 use Rattle.sheet.specs.declared.Bounded.the-variants as Bounded
-use Rattle.sheet.specs.Sheet.{Sheet, mode-of}
-use Rattle.sheet.specs.Scaled.{F}
-use Rattle.sheet.specs.Bounds.{lower, upper, bend, verdict}
-use Rattle.sheet.specs.Weight.{weight, spare}
-use Rattle.sheet.specs.Refusals.{Input, not-given, given, nothing, cell, point, refusal}
-
--- by the refusal's number n: the values where it is 0, and else what n refuses
-abbrev pub unless : {X : Type 0} → ℕ → (ℕ → X) → X → X
-unless zero refused values = values
-unless (suc n) refused values = refused (suc n)
+use Rattle.page.specs.Sheet.{Sheet, mode-of}
+use Rattle.page.specs.Scaled.{F}
+use Rattle.page.specs.Bounds.{lower, upper, bend, verdict}
+use Rattle.page.specs.Weight.{weight, spare}
+use Rattle.page.specs.Refusals.{to-check, at-point, in-cell, refusal, unless}
 
 -- ---- check a sheet
-abbrev pub to-check : Sheet → Input
-to-check S = record { sheet = S; mode = not-given; entries = not-given; question = nothing }
-
 unfoldable pub checked : Sheet → Checked
 checked S = unless (refusal (to-check S)) Checked.Refused (Checked.Accepted (weight S) (spare S))
 
@@ -40,9 +32,6 @@ unfoldable pub weighed : Sheet → Weighed
 weighed S = unless (refusal (to-check S)) (λ n. record { number = n; weight = 0; spare = 0 }) (record { number = 0; weight = weight S; spare = spare S })
 
 -- ---- value F at a whole-number point (U, V) of the closed square
-abbrev pub at-point : Sheet → ℤ → ℤ → Input
-at-point S u v = record { sheet = S; mode = not-given; entries = not-given; question = point u v }
-
 unfoldable pub valued : Sheet → ℤ → ℤ → Valued
 valued S u v = unless (refusal (at-point S u v)) Valued.Refused (Valued.At (F S u v))
 
@@ -59,9 +48,6 @@ unfoldable pub evaluated : Sheet → ℤ → ℤ → Evaluated
 evaluated S u v = unless (refusal (at-point S u v)) (λ n. record { number = n; value = pos 0 }) (record { number = 0; value = F S u v })
 
 -- ---- bounds and bend of a cell
-abbrev pub in-cell : Sheet → ℕ → ℕ → ℕ → ℕ → Input
-in-cell S mode j p q = record { sheet = S; mode = given mode; entries = not-given; question = cell j p q }
-
 unfoldable pub bounded : Sheet → ℕ → ℕ → ℕ → ℕ → Bounded
 bounded S mode j p q = unless (refusal (in-cell S mode j p q)) Bounded.Refused (Bounded.Cell (verdict S (mode-of mode) j p q) (bend S j p q))
 

@@ -5,7 +5,7 @@ use lib.IntN.{ℤ}
 use Rattle.sheet.specs.declared.Checked.{Checked}
 use Rattle.sheet.specs.declared.Valued.{Valued}
 use Rattle.sheet.specs.declared.Bounded.{Bounded}
-use Rattle.sheet.specs.Sheet.{Sheet}
+use Rattle.page.specs.Sheet.{Sheet}
 use Rattle.sheet.specs.Answers.{checked, states-weight, weighed, valued, states-value, evaluated, bounded, states-bounds, measured}
 
 -- the answer is that of the definition, and its case states the page's number and values

@@ -1,11 +1,9 @@
 // The calls that walk nothing: check a sheet, value F at a point, bounds and bend of a cell.
-pub use local::Verdict;
+pub use verdicts::Verdict;
 
-mod cell;
 mod refusals;
-mod scale;
 
-ghost use Rattle.sheet.specs.Sheet.{sheet-of};
+ghost use Rattle.page.specs.Sheet.{sheet-of};
 ghost use Rattle.sheet.specs.Promises.{CheckPromise, ValuePromise, BoundsPromise};
 
 // Weight and spare places, or a refusal.
@@ -30,11 +28,11 @@ pub enum Bounded {
 pub fn check(d: u32, coefficients: &[i32], x: i32, y: i32, s: u32, k: u32) -> Checked
     ensures { λ r. ⌜ CheckPromise (sheet-of d (now (coefficients .entry)) x y s k) r ⌝ }
 {
-    let refusal = refusals::range_refusal(d, coefficients, x, y, s, k);
+    let refusal = cells::range_refusal(d, coefficients, x, y, s, k);
     if refusal != 0 {
         return Checked::Refused(refusal);
     }
-    let weight = refusals::sheet_weight(d, coefficients, x, y, s, k);
+    let weight = cells::sheet_weight(d, coefficients, x, y, s, k);
     if weight == numbers::CEILING {
         return Checked::Refused(6);
     }
@@ -50,7 +48,7 @@ pub fn value(d: u32, coefficients: &[i32], x: i32, y: i32, s: u32, k: u32, u: i6
     if refusal != 0 {
         return Valued::Refused(refusal);
     }
-    let form = scale::scaled_form(d, coefficients, k);
+    let form = cells::scaled_form(d, coefficients, k);
     // F at (u, v) is G(0,0) of the form about it
     let there = local::local_form(form, u, v, 0);
     let z = local::centre_of(there);
@@ -76,12 +74,9 @@ pub fn bounds(
     if refusal != 0 {
         return Bounded::Refused(refusal);
     }
-    let form = scale::scaled_form(d, coefficients, k);
-    let h = cell::half_side(s, k, j);
-    let u = cell::centre(x, k, p, h);
-    let v = cell::centre(y, k, q, h);
-    let there = local::local_form(form, u, v, h);
-    let range = local::local_range(there, mode);
+    let form = cells::scaled_form(d, coefficients, k);
+    let frame = cells::frame_of(x, y, s, k, mode);
+    let range = cells::cell_range(form, frame, j, p, q);
     let verdict = range.verdict;
     Bounded::Cell {
         verdict,

@@ -7,12 +7,12 @@ use Rattle.algebra.specs.MinMax.{minℤ, maxℤ}
 use Rattle.algebra.specs.Triangle.{row-start}
 use Rattle.algebra.specs.Digits.{digits}
 use Rattle.local.specs.Range.{judged}
-use Rattle.sheet.specs.Scaled.{F}
-use Rattle.sheet.specs.LocalForm.{G}
-use Rattle.sheet.specs.Bounds.{lower, upper, bend}
-use Rattle.sheet.specs.Walking.{colour, raster, visited, coloured}
-use Rattle.sheet.specs.Weight.{weight}
-use Rattle.sheet.specs.Refusals.{table, first}
+use Rattle.page.specs.Scaled.{F}
+use Rattle.page.specs.LocalForm.{G}
+use Rattle.page.specs.Bounds.{lower, upper, bend}
+use Rattle.verdicts.specs.Walking.{colour, raster, visited, coloured}
+use Rattle.page.specs.Weight.{weight}
+use Rattle.page.specs.Refusals.{table, first}
 use Rattle.sheet.specs.Answers.{checked, valued, bounded}
 use Rattle.starred.specs.Starred.{holds, starred, all-hold, StarredHold}
 

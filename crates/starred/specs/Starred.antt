@@ -7,9 +7,9 @@ use lib.Dec.{eqb}
 use lib.IntN.{ℤ, pos, negℤ}
 use lib.ListN.{length, replicate}
 use lib.Signed.{leZ}
-use Rattle.sheet.specs.Sheet.{Sheet, mode-of}
-use Rattle.sheet.specs.Bounds.{verdict}
-use Rattle.sheet.specs.Walking.{visited, coloured, raster}
+use Rattle.page.specs.Sheet.{Sheet, mode-of}
+use Rattle.page.specs.Bounds.{verdict}
+use Rattle.verdicts.specs.Walking.{visited, coloured, raster}
 use Rattle.sheet.specs.Answers.{checked, states-weight, valued, states-value, bounded, states-bounds}
 
 -- ---- a figure of a sheet: what a call answers, or a count of the walk. The mode comes first; a cell is level, column, row

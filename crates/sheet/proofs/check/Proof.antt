@@ -9,13 +9,13 @@ use lib.Dec.{leb}
 use mir.Facts.{toZ-ofZ}
 use Rattle.algebra.specs.Digits.{digits}
 use Rattle.sheet.specs.declared.Checked.the-variants.{Accepted, Refused}
-use Rattle.sheet.specs.Sheet.{Sheet, sheet-of, InRange}
-use Rattle.sheet.specs.Weight.{weight, spare}
-use Rattle.sheet.specs.Refusals.{refusal}
-use Rattle.sheet.specs.Answers.{to-check, checked}
-use Rattle.sheet.specs.Steps.{range-refusal}
+use Rattle.page.specs.Sheet.{Sheet, sheet-of, InRange}
+use Rattle.page.specs.Weight.{weight, spare}
+use Rattle.page.specs.Refusals.{refusal, to-check}
+use Rattle.page.specs.Steps.{range-refusal}
+use Rattle.sheet.specs.Answers.{checked}
 use Rattle.sheet.proofs.Promises.{check-kept}
-use Rattle.sheet.proofs.Rows.{check-rows, range-passed, heavy, not-heavy, stays, rest, unless-refused, unless-none}
+use Rattle.page.proofs.Rows.{check-rows, range-passed, heavy, not-heavy, stays, rest, unless-refused, unless-none}
 use Rattle.sheet.proofs.check.Statement.{statement}
 use Rattle.sheet.proofs.check.Tie as tie
 

@@ -8,16 +8,16 @@ use mir.Facts.{toZ-ofZ}
 use Rattle.local.specs.Table.{Tabled}
 use Rattle.numbers.proofs.Machine.{read64}
 use Rattle.sheet.specs.declared.Valued.the-variants.{At, Refused}
-use Rattle.sheet.specs.Sheet.{Sheet, sheet-of}
-use Rattle.sheet.specs.Scaled.{F, scaled}
-use Rattle.sheet.specs.Weight.{Accepted}
-use Rattle.sheet.specs.Refusals.{misplaced, point, refusal}
-use Rattle.sheet.specs.Answers.{at-point, valued}
+use Rattle.page.specs.Sheet.{Sheet, sheet-of}
+use Rattle.page.specs.Scaled.{F, scaled}
+use Rattle.page.specs.Weight.{Accepted}
+use Rattle.page.specs.Refusals.{misplaced, point, refusal, at-point}
+use Rattle.sheet.specs.Answers.{valued}
 use Rattle.sheet.proofs.Promises.{value-kept}
-use Rattle.sheet.proofs.Rows.{point-passed, unless-refused, unless-none}
-use Rattle.sheet.proofs.Cells.{point-limit}
-use Rattle.sheet.proofs.Scaling.{scalable}
-use Rattle.sheet.proofs.Forms.{movable, value-first}
+use Rattle.page.proofs.Rows.{point-passed, unless-refused, unless-none}
+use Rattle.page.proofs.Cells.{point-limit}
+use Rattle.cells.proofs.Scaling.{scalable}
+use Rattle.cells.proofs.Forms.{movable, value-first}
 use Rattle.sheet.proofs.value.Statement.{statement}
 use Rattle.sheet.proofs.value.Tie as tie
 

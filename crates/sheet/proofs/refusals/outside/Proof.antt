@@ -13,7 +13,7 @@ use mir.Val.{toZ, ofZ}
 use mir.Facts.{toZ-ofZ}
 use Rattle.algebra.proofs.Absolute.{natAbs-+ℤ}
 use Rattle.numbers.proofs.Machine.{read64}
-use Rattle.sheet.specs.Refusals.{outside-side}
+use Rattle.page.specs.Refusals.{outside-side}
 use Rattle.sheet.proofs.refusals.outside.Statement.{statement}
 use Rattle.sheet.proofs.refusals.outside.Tie as tie
 

@@ -5,12 +5,11 @@ use Prim.Native.Nat.{_^_, min}
 use borrow.Author.Needs.{needs}
 use lib.Dec.{leb}
 use mir.Facts.{toZ-ofZ}
-use Rattle.sheet.specs.Sheet.{Sheet, sheet-of, InRange}
-use Rattle.sheet.specs.Weight.{weight}
-use Rattle.sheet.specs.Refusals.{misplaced, point, refusal}
-use Rattle.sheet.specs.Answers.{at-point}
-use Rattle.sheet.specs.Steps.{range-refusal}
-use Rattle.sheet.proofs.Rows.{point-rows, range-passed, heavy, not-heavy, stays, rest}
+use Rattle.page.specs.Sheet.{Sheet, sheet-of, InRange}
+use Rattle.page.specs.Weight.{weight}
+use Rattle.page.specs.Refusals.{misplaced, point, refusal, at-point}
+use Rattle.page.specs.Steps.{range-refusal}
+use Rattle.page.proofs.Rows.{point-rows, range-passed, heavy, not-heavy, stays, rest}
 use Rattle.sheet.proofs.refusals.point_refusal.Statement.{statement}
 use Rattle.sheet.proofs.refusals.point_refusal.Tie as tie
 

@@ -1,0 +1,116 @@
+-- What the page says of its definitions holds.
+use mathlib.Core.Path.{_≡_, refl, sym, _∙_, ap}
+use mathlib.Core.Bool.{Bool, true, false}
+use mathlib.Core.List.{List, [], _∷_, _++_, List·Memᴰ, List·Memᴰ·head, List·Memᴰ·tail, List·Memᴰ·cases-cons, List·Memᴰ·not-nil}
+use mathlib.Core.Logic.{⊎-elim}
+use Prim.Native.Nat.{ℕ, _+_, _*_, _-_, _^_}
+use native.Mathlib.Nat as Nat
+use native.Mathlib.Omega.{arith}
+use borrow.Author.Tests.{le-ltb, leb-false, lt-leb}
+use lib.Dec.{leb}
+use lib.IntN.{ℤ, pos, _+ℤ_, _-ℤ_, _*ℤ_, pow}
+use Rattle.algebra.specs.Sum.{_⋯_}
+use Rattle.algebra.proofs.Integer.{*ℤ-idr}
+use Rattle.algebra.proofs.Power.{pow-+, *ℤ-pow}
+use Rattle.algebra.proofs.Ring.{ring, _⊕_, _⊖_, _⊗_, #_, _≐_}
+use Rattle.algebra.proofs.Sum.{sum-cong, *ℤ-sum}
+use Rattle.algebra.proofs.Run.{⋯-member}
+use Rattle.algebra.proofs.Places.{row-start-all, places-45}
+use Rattle.forms.specs.Vectors.{total}
+use Rattle.forms.specs.Points.{powers}
+use Rattle.forms.specs.LocalForm.{local}
+use Rattle.forms.specs.Plane.{pair}
+use Rattle.forms.proofs.Plane.{scale-page, value-pair, sum-plane}
+use Rattle.forms.proofs.Taylor.{local-formula}
+use Rattle.page.specs.Sheet.{A}
+use Rattle.page.specs.Scaled.{half-side, value-at, f-at}
+use Rattle.page.specs.Weight.{weight, Accepted}
+use Rattle.page.specs.Refusals.{Row, first, refusal, to-check}
+use Rattle.page.specs.Steps.{range-refusal}
+use Rattle.page.specs.Facts.{ScalesF, AtWhole, SharedEdges, Expands, AtMost45, AcceptedByCheck, GivenBy, GivenExactly}
+use Rattle.page.proofs.Rows.{check-rows, range-passed, range-0, outside-size, both-zero, next-row, rest}
+use Rattle.page.proofs.Page.{polynomial, centre, F-is, G-is, value-is}
+
+-- ---- F and f
+pub at-whole : AtWhole
+at-whole S u v = value-is S u v 1 ∙ sym (F-is S u v)
+
+pub scales-F : ScalesF
+unfolding value-at f-at
+scales-F S M N Q =
+    let K = pos (2 ^ (S .k + 1)) in let d = S .d in
+    sum-cong (0 ⋯ d) (λ i m. sum-cong (0 ⋯ (d - i)) (λ j l.
+    let x = ⋯-member 0 d m in let y = ⋯-member 0 (d - i) l in let e : d - i - j + i + j ≡ d = omega arith in
+    let whole : pow K (d - i - j) *ℤ pow K i *ℤ pow K j ≡ pow K d = sym (ap (λ z. z *ℤ pow K j) (pow-+ K (d - i - j) i)) ∙ sym (pow-+ K (d - i - j + i) j) ∙ ap (pow K) e in
+    rw (*ℤ-pow K M i, *ℤ-pow K N j, ← (scale-page (S .k) (d - i - j)), ← (scale-page (S .k) d), ← whole)
+    (ring (A S i j ∷ pow K (d - i - j) ∷ pow K i ∷ pow K j ∷ pow M i ∷ pow N j ∷ pow (pos Q) (d - i - j) ∷ []) (λ a s t u m n q. a ⊗ s ⊗ (t ⊗ m) ⊗ (u ⊗ n) ⊗ q ≐ s ⊗ t ⊗ u ⊗ (a ⊗ m ⊗ n ⊗ q)) tt)))
+    ∙ sym (*ℤ-sum (pos (2 ^ ((S .k + 1) * d))) (0 ⋯ d) _ ∙ sum-cong (0 ⋯ d) (λ i m. *ℤ-sum (pos (2 ^ ((S .k + 1) * d))) (0 ⋯ (d - i)) _))
+
+-- ---- cells
+pub shared-edges : SharedEdges
+shared-edges S j p q = (edge (S .X) p, edge (S .Y) q)
+  where
+    edge : (z : ℤ) (p : ℕ) → pos (2 ^ (S .k + 1)) *ℤ z +ℤ pos ((2 * p + 1) * half-side S j) +ℤ pos (half-side S j) ≡ pos (2 ^ (S .k + 1)) *ℤ z +ℤ pos ((2 * (p + 1) + 1) * half-side S j) -ℤ pos (half-side S j)
+    edge z p = ring (pos (2 ^ (S .k + 1)) ∷ z ∷ pos p ∷ pos (half-side S j) ∷ []) (λ n x p h. n ⊗ x ⊕ (# 2 ⊗ p ⊕ # 1) ⊗ h ⊕ h ≐ n ⊗ x ⊕ (# 2 ⊗ (p ⊕ # 1) ⊕ # 1) ⊗ h ⊖ h) tt
+
+pub expands : Expands
+unfolding powers total
+expands S j p q M N Q =
+    value-is S _ _ Q ∙ sym (value-pair (S .d) (2 ^ (S .k + 1)) (A S) (λ v. pos Q *ℤ centre S j p q v +ℤ pos (half-side S j) *ℤ pair M N v) Q)
+    ∙ local-formula (polynomial S) (centre S j p q) (half-side S j) (pair M N) Q
+    ∙ sum-plane (S .d) (λ x. local (polynomial S) (centre S j p q) (half-side S j) x *ℤ powers (pair M N) x *ℤ pow (pos Q) (S .d - total x))
+    ∙ sum-cong (0 ⋯ (S .d)) (λ a m. sum-cong (0 ⋯ (S .d - a)) (λ b n. rw (*ℤ-idr, ← G-is S j p q a b, Nat.add-zero, Nat.sub-add-eq)))
+
+-- ---- sheets
+pub at-most-45 : AtMost45
+at-most-45 d h = rw (row-start-all d) at (places-45 d h)
+
+-- ---- accepted, by the definition and by check
+pub accepted-by-check : AcceptedByCheck
+accepted-by-check S = (passes, passed)
+  where
+    passed : refusal (to-check S) ≡ 0 → Accepted S
+    passed e =
+        let r = both-zero (range-refusal S) _ (sym (check-rows S) ∙ e) in let w = next-row (leb (2 ^ 62) (weight S)) 5 0 (r .1) in
+        record { ranges = range-passed S (r .0); light = leb-false (2 ^ 62) (weight S) (w .0) }
+
+    passes : Accepted S → refusal (to-check S) ≡ 0
+    passes a =
+        let r = a .ranges in
+        check-rows S ∙ rest _ (sym (range-0 S (r .degree) (r .counted) (r .depth) (outside-size (S .X) ∙ le-ltb 1_048_576 _ (r .corner-x)) (outside-size (S .Y) ∙ le-ltb 1_048_576 _ (r .corner-y)) (r .side)))
+        ∙ rw (lt-leb (2 ^ 62) (weight S) (a .light))
+
+-- ---- the number of a row is given exactly when it holds and nothing tried before it does
+skipped : (r : Row) (rs : List Row) → r .holds ≡ false → first (r ∷ rs) ≡ first rs
+unfolding first
+skipped r rs e = rw e
+
+taken : (r : Row) (rs : List Row) → r .holds ≡ true → first (r ∷ rs) ≡ r .number
+unfolding first
+taken r rs e = rw e
+
+past : (before : List Row) (r : Row) (after : List Row) → ((b : Row) → List·Memᴰ b before → b .holds ≡ false) → r .holds ≡ true → first (before ++ (r ∷ after)) ≡ r .number
+past [] r after none e = taken r after e
+past (b ∷ bs) r after none e = skipped b (bs ++ (r ∷ after)) (none b (List·Memᴰ·head refl)) ∙ past bs r after (λ c m. none c (List·Memᴰ·tail m)) e
+
+-- the rows from the first one on
+after-row : (n : ℕ) (r : Row) (rs : List Row) (b : Bool) → r .holds ≡ b → first (r ∷ rs) ≡ n → (first rs ≡ n → GivenBy rs n) → GivenBy (r ∷ rs) n
+after-row n r rs true w e k = record { before = []; row = r; after = rs; split = refl; number = sym (taken r rs w) ∙ e; holds = w; nothing-before = λ b m. absurd (List·Memᴰ·not-nil m) }
+after-row n r rs false w e k = let g = k (sym (skipped r rs w) ∙ e) in
+    record {
+      before = r ∷ g .before;
+      row = g .row;
+      after = g .after;
+      split = ap (λ x. r ∷ x) (g .split);
+      number = g .number;
+      holds = g .holds;
+      nothing-before = λ b m. ⊎-elim (λ q. ap (λ x. x .holds) q ∙ w) (λ k. g .nothing-before b k) (List·Memᴰ·cases-cons m);
+    }
+
+found : (n : ℕ) (rows : List Row) → (n ≡ 0 → ⊥) → first rows ≡ n → GivenBy rows n
+unfolding first
+found n [] h e = absurd (h (sym e))
+found n (r ∷ rs) h e = after-row n r rs (r .holds) refl e (found n rs h)
+
+pub given-exactly : GivenExactly
+given-exactly rows n h = (found n rows h, λ g. ap first (g .split) ∙ past (g .before) (g .row) (g .after) (g .nothing-before) (g .holds) ∙ g .number)

@@ -1,0 +1,9 @@
+pub mod Rows
+pub mod Weights
+pub mod Cells
+pub mod Page
+pub mod Demand3
+pub mod Raster
+pub mod Facts
+pub mod Edges
+pub mod Samples

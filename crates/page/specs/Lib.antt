@@ -1,0 +1,12 @@
+-- Document 01 as definitions, in its order and words, and the statements that are proved of them. The section 'Walking the sheet' stands in `verdicts`, for any verdicts; the answers of the calls stand
+-- with the calls. A reader must also believe the sums, binomials, places, digits and extremes of `algebra`, `Mode`, `even-pair` and `AtCorners` of `forms`, and `mode-of` and `judged` of `local`.
+pub mod Sheet
+pub mod Scaled
+pub mod LocalForm
+pub mod Bounds
+pub mod Weight
+pub mod Refusals
+pub mod Facts
+pub mod Demand3
+pub mod Raster
+pub mod Steps

@@ -1,0 +1,1 @@
+// No code: document 01 as definitions, and what is proved of them.

@@ -1,0 +1,15 @@
+pub mod Samples
+pub mod Cells
+pub mod Lists
+pub mod Parts
+pub mod Bounds
+pub mod Colours
+pub mod Squares
+pub mod Levels
+pub mod Tallies
+pub mod Listing
+pub mod Lengths
+pub mod Counts
+pub mod Bytes
+pub mod Records
+pub mod Reasons

@@ -1,0 +1,48 @@
+-- Laws of lists: joined, mapped, and those members that have a property.
+use mathlib.Core.Path.{_≡_, refl}
+use mathlib.Core.Bool.{Bool, false, cond}
+use mathlib.Core.Logic.{inl, inr}
+use mathlib.Core.List.{List, [], _∷_, _++_, map, flatMap, List·Memᴰ, List·Memᴰ·head, List·Memᴰ·tail, List·Memᴰ·append-cases}
+use Rattle.algebra.proofs.Choice.{cond-ap}
+use Rattle.verdicts.specs.Walking.{those}
+
+module _ {X : Type 0} where
+  -- ---- what every member of two lists has, every member of the joined list has
+  pub ++-member : (P : X → Type 0) (xs ys : List X) → ((x : X) → List·Memᴰ x xs → P x) → ((x : X) → List·Memᴰ x ys → P x) → (x : X) → List·Memᴰ x (xs ++ ys) → P x
+  ++-member P xs ys f g x m = elim (List·Memᴰ·append-cases xs m) [
+    | inl i ↦ f x i
+    | inr i ↦ g x i
+  ]
+
+  -- ---- those that have a property
+  pub those-++ : (has : X → Bool) (xs ys : List X) → those has (xs ++ ys) ≡ those has xs ++ those has ys
+  unfolding those
+  those-++ has [] ys = refl
+  those-++ has (x ∷ xs) ys = rw (those-++ has xs ys, cond-ap (λ l. l ++ those has ys) (has x) (x ∷ those has xs) (those has xs))
+
+  -- the first of them, where it is known
+  pub those-first : (has : X → Bool) (x : X) (xs : List X) (b : Bool) → has x ≡ b → those has (x ∷ xs) ≡ cond b (x ∷ those has xs) (those has xs)
+  unfolding those
+  those-first has x xs b h = rw h
+
+  pub those-cong : (xs : List X) {f g : X → Bool} → ((x : X) → List·Memᴰ x xs → f x ≡ g x) → those f xs ≡ those g xs
+  unfolding those
+  those-cong [] h = refl
+  those-cong (x ∷ xs) h = rw (h x (List·Memᴰ·head refl), those-cong xs (λ y m. h y (List·Memᴰ·tail m)))
+
+  pub those-none : (xs : List X) → those (λ x. false) xs ≡ []
+  unfolding those
+  those-none [] = refl
+  those-none (x ∷ xs) = those-none xs
+
+module _ {X Y : Type 0} where
+  -- ---- each member by a function that is the same there
+  pub map-cong : (xs : List X) {f g : X → Y} → ((x : X) → List·Memᴰ x xs → f x ≡ g x) → map f xs ≡ map g xs
+  map-cong [] h = refl
+  map-cong (x ∷ xs) h = rw (h x (List·Memᴰ·head refl), map-cong xs (λ y m. h y (List·Memᴰ·tail m)))
+
+  -- ---- one member for each
+  pub flatMap-one : (xs : List X) {f : X → List Y} {g : X → Y} → ((x : X) → List·Memᴰ x xs → f x ≡ g x ∷ []) → flatMap f xs ≡ map g xs
+  unfolding flatMap
+  flatMap-one [] h = refl
+  flatMap-one (x ∷ xs) h = rw (h x (List·Memᴰ·head refl), flatMap-one xs (λ y m. h y (List·Memᴰ·tail m)))

@@ -1,0 +1,4 @@
+-- The page's section 'Walking the sheet' as definitions, for any verdicts, and what is proved of them. A reader must also believe the sums and ranges of `algebra`.
+pub mod Walking
+pub mod Facts
+pub mod Operational

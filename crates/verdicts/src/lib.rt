@@ -1,0 +1,8 @@
+// What a cell's verdict is. The rest of the crate is definitions and theorems: what follows from verdicts alone.
+
+// Above, below or open, with both bounds.
+pub enum Verdict {
+    Above { lower: i64, upper: i64 },
+    Below { lower: i64, upper: i64 },
+    Open { lower: i64, upper: i64 },
+}

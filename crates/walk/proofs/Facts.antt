@@ -1,0 +1,61 @@
+-- What the promises say of the places that a call leaves.
+use mathlib.Core.Path.{_≡_, refl, sym, _∙_, ap}
+use mathlib.Core.List.{List, _++_}
+use Prim.Native.Nat.{ℕ, _+_, _*_, _^_, _≤_}
+use native.Mathlib.Nat as Nat
+use native.Mathlib.Omega.{arith}
+use lib.ListN.{length, getD, drop, List·getD-append}
+use Rattle.verdicts.specs.Walking.{raster, listing}
+use Rattle.verdicts.proofs.Lengths.{raster-long, listing-long}
+use Rattle.verdicts.proofs.Bytes.{byte-below, raster-byte}
+use Rattle.page.specs.Sheet.{Sheet, mode-of}
+use Rattle.page.specs.Refusals.{refusal, to-walk}
+use Rattle.page.proofs.Rows.{unless-none, unless-refused, walk-passed}
+use Rattle.page.proofs.Raster.{white-signed, coloured-meets}
+use Rattle.walk.specs.Answers.{verdicts, rastered, recorded}
+use Rattle.walk.specs.Facts.{PrintedByte, PrintedSigned, PrintedMeets, RefusedUnchanged, LaterUnchanged}
+use Rattle.walk.proofs.Whole.{over-length, over-later}
+
+-- ---- the places where nothing is refused
+module _ (S : Sheet) (mode : ℕ) (old : List ℕ) (e : refusal (to-walk S mode (length old)) ≡ 0) where
+  raster-place : rastered S mode old ≡ raster (verdicts S mode) (S .k) ++ drop (4 ^ S .k) old
+  unfolding rastered
+  raster-place = sym (unless-none _ _ _ e)
+
+  listing-place : recorded S mode old ≡ listing (verdicts S mode) (S .k) ++ drop (length (listing (verdicts S mode) (S .k))) old
+  unfolding recorded
+  listing-place = sym (unless-none _ _ _ e)
+
+  -- there is room for the raster and for the listing
+  raster-room : 4 ^ S .k ≤ length old
+  raster-room = walk-passed S mode (length old) e .2
+
+  listing-room : length (listing (verdicts S mode) (S .k)) ≤ length old
+  listing-room = Nat.le-trans (listing-long (verdicts S mode) (S .k) .2) raster-room
+
+-- ---- the bytes of the raster
+pub printed-byte : PrintedByte
+printed-byte S mode old r now h e p q a b =
+    let v = verdicts S mode in
+    ap (λ l. getD l (q * 2 ^ S .k + p) 0) (h .2 ∙ raster-place S mode old e)
+    ∙ List·getD-append (raster v (S .k)) (drop (4 ^ S .k) old) 0 (q * 2 ^ S .k + p) (omega (arith, raster-long v (S .k), byte-below (S .k) p q a b))
+    ∙ raster-byte v (S .k) p q a b
+
+pub printed-signed : PrintedSigned
+printed-signed S mode old r now h e p q a b = rw (printed-byte S mode old r now h e p q a b) (white-signed S (mode-of mode) p q)
+
+pub printed-meets : PrintedMeets
+printed-meets S mode old r now h e p q a b = rw (printed-byte S mode old r now h e p q a b) (coloured-meets S (mode-of mode) p q)
+
+-- ---- what stays as it was
+pub refused-unchanged : RefusedUnchanged
+unfolding rastered recorded
+refused-unchanged S mode old now n = (λ r h. h .2 ∙ sym (unless-refused _ _ _ n), λ r h. h .2 ∙ sym (unless-refused _ _ _ n))
+
+pub later-unchanged : LaterUnchanged
+later-unchanged S mode old now e =
+    let v = verdicts S mode in
+    let long = raster-long v (S .k) in (
+      λ r h. rw (h .2 ∙ raster-place S mode old e) (over-length (raster v (S .k)) old long (raster-room S mode old e), over-later (raster v (S .k)) old long),
+      λ r h. rw (h .2 ∙ listing-place S mode old e) (over-length (listing v (S .k)) old refl (listing-room S mode old e), over-later (listing v (S .k)) old refl),
+    )

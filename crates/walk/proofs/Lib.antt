@@ -1,0 +1,10 @@
+pub mod Picks
+pub mod Runs
+pub mod Blocks
+pub mod Cells
+pub mod Painting
+pub mod Recording
+pub mod Whole
+pub mod Promises
+pub mod Facts
+pub mod Samples

@@ -1,0 +1,37 @@
+-- The answers and the places at the page's numbers: P1, P13, and the records of the whole case.
+use mathlib.Core.Path.{_≡_, refl}
+use mathlib.Core.List.{[], _∷_}
+use lib.IntN.{pos, negsuc, pow, one}
+use Rattle.algebra.specs.Sum.{sum, sumℕ, run, span, _⋯_}
+use Rattle.algebra.specs.Binomial.{choose}
+use Rattle.algebra.specs.MinMax.{minℤ, maxℤ}
+use Rattle.algebra.specs.Triangle.{row-start}
+use Rattle.local.specs.Range.{judged}
+use Rattle.verdicts.specs.Walking.{colour, raster, visited, coloured, walking-order, those, listing}
+use Rattle.page.specs.Sheet.{Sheet, sheet-of}
+use Rattle.page.specs.LocalForm.{G}
+use Rattle.page.specs.Bounds.{lower, upper}
+use Rattle.page.specs.Weight.{weight}
+use Rattle.page.specs.Refusals.{table, first}
+use Rattle.walk.specs.declared.Tallied.the-variants as Tallied
+use Rattle.walk.specs.declared.Listed.the-variants as Listed
+use Rattle.walk.specs.Answers.{tallied, rastered, states-tally, listed, recorded, states-listing}
+
+-- 8x² + 1, and x - y
+abbrev P1 : Sheet
+P1 = sheet-of 2 (pos 1 ∷ pos 0 ∷ pos 0 ∷ pos 0 ∷ pos 0 ∷ pos 8 ∷ []) (negsuc 0) (negsuc 0) 1 1
+
+abbrev P4 : Sheet
+P4 = sheet-of 1 (pos 0 ∷ negsuc 0 ∷ pos 1 ∷ []) (pos 0) (pos 0) 0 1
+
+answers : (tallied P4 0 3 ≡ Tallied.Refused 7) × (tallied P4 0 4 ≡ Tallied.Tally 5 4) × (tallied P1 0 4 ≡ Tallied.Tally 1 0) × (tallied P1 1 4 ≡ Tallied.Tally 5 4) × (tallied P1 2 3 ≡ Tallied.Refused 5)
+    × (listed P4 1 3 ≡ Listed.Refused 7) × (listed P4 1 9 ≡ Listed.Records 4 5 4) × (listed P1 0 4 ≡ Listed.Records 1 1 0)
+    × (states-tally (tallied P4 0 3) ≡ record { number = 7; visited = 0; coloured = 0 }) × (states-listing (listed P4 0 3) ≡ record { number = 7; length = 0; visited = 0; coloured = 0 })
+unfolding pow one sum sumℕ run span _⋯_ choose minℤ maxℤ row-start judged G lower upper weight colour raster visited coloured walking-order those listing table first tallied listed
+answers = (refl, refl, refl, refl, refl, refl, refl, refl, refl, refl)
+
+-- three bytes at k 1 stay, four are written, and of five the fifth stays; four records, and one
+places : (rastered P4 0 (9 ∷ 8 ∷ 7 ∷ []) ≡ 9 ∷ 8 ∷ 7 ∷ []) × (rastered P4 0 (9 ∷ 8 ∷ 7 ∷ 6 ∷ []) ≡ 1 ∷ 1 ∷ 1 ∷ 1 ∷ []) × (rastered P4 0 (9 ∷ 8 ∷ 7 ∷ 6 ∷ 5 ∷ []) ≡ 1 ∷ 1 ∷ 1 ∷ 1 ∷ 5 ∷ [])
+    × (recorded P4 0 (9 ∷ 8 ∷ 7 ∷ []) ≡ 9 ∷ 8 ∷ 7 ∷ []) × (recorded P4 0 (9 ∷ 8 ∷ 7 ∷ 6 ∷ 5 ∷ []) ≡ 65_537 ∷ 65_541 ∷ 66_049 ∷ 66_053 ∷ 5 ∷ []) × (recorded P1 0 (9 ∷ 8 ∷ 7 ∷ 6 ∷ []) ≡ 2 ∷ 8 ∷ 7 ∷ 6 ∷ [])
+unfolding pow one sum sumℕ run span _⋯_ choose minℤ maxℤ row-start judged G lower upper weight colour raster visited coloured walking-order those listing table first rastered recorded
+places = (refl, refl, refl, refl, refl, refl)

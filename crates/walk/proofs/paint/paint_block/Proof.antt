@@ -1,0 +1,144 @@
+-- `walk::paint::paint_block` meets its contract. The loop's invariant: the first `row` rows of the block are painted.
+use borrow.Author.Needs.{needs}
+use mathlib.Core.Path.{_≡_, refl, _∙_}
+use mathlib.Core.Bool.{cond}
+use Prim.Native.Nat.{ℕ, _+_, _*_, _-_, _^_, _≤_, _<_}
+use native.Mathlib.Omega.{arith}
+use lib.ListN.{length, getD}
+use lib.Pow.{pow-mono}
+use Rattle.algebra.proofs.Power.{*-pow}
+use Rattle.walk.proofs.Blocks.{room, rows, block-none, block-more, block-all, rows-end}
+use Rattle.walk.proofs.paint.paint_block.Statement.{statement}
+use Rattle.walk.proofs.paint.paint_block.Tie as tie
+use Rattle.walk.proofs.paint.paint_block.Reads as reads
+use Rattle.walk.proofs.paint.paint_block.Lts as lts
+use Rattle.walk.proofs.paint.paint_run.Reads as paint-run-reads
+use Rattle.walk.proofs.paint.side.Reads as power-reads
+
+abbrev Inv-loop : tie.InvT-loop
+Inv-loop place₀ k level p q colour stride count x y row₀ place row =
+    (length place ≡ length place₀)
+    × (row ≤ count)
+    × ((i : ℕ) → i < length place₀ → getD place i 0 ≡ cond (rows k (k - level) p q (q * 2 ^ (k - level) + row) i) colour (getD place₀ i 0))
+
+abbrev μ-loop : tie.MeasureT-loop
+μ-loop place₀ k level p q colour stride count x y row₀ place row = count - row
+
+-- what is known of the sides, before the loop
+record Sides (k level p q stride side n : ℕ) : Type 0 where
+  stride-is : stride ≡ 2 ^ k
+  side-is : side ≡ 2 ^ (k - level)
+  columns : p * side + side ≤ stride
+  rows-in : q * side + side ≤ stride
+  small : stride ≤ 128
+  whole : stride * stride ≤ n
+
+sides : (c : tie.After-side2 Inv-loop μ-loop) →
+    let a = c .before .before .before .args in
+    Sides (a .k) (a .level) (a .p) (a .q) (c .before .side .result) (c .side2 .result) (length (a .place .now))
+sides c =
+    let a = c .before .before .before .args in
+    let pre = c .before .before .before .pre in
+    let es : c .before .side .result ≡ 2 ^ (a .k) = c .before .side .ensures in
+    let ed : c .side2 .result ≡ 2 ^ (a .k - a .level) = c .side2 .ensures in
+    record {
+      stride-is = es;
+      side-is = ed;
+      columns = rw (ed, es) (room (a .k) (a .level) (a .p) (pre .1 .level) (pre .1 .column));
+      rows-in = rw (ed, es) (room (a .k) (a .level) (a .q) (pre .1 .level) (pre .1 .row));
+      small = rw es (pow-mono (pre .0));
+      whole = rw es (rw (*-pow 2 2 (a .k)) at (pre .2));
+    }
+
+-- the row's run ends within the grid
+in-grid : (c : tie.After-paint-run-arg Inv-loop μ-loop) →
+    let a = c .before .before .before .before .before .before .args in
+    let stride = c .before .before .before .before .side .result in
+    let side = c .before .before .before .side2 .result in
+    (a .q * side + c .before .before .loop .row) * stride + stride ≤ stride * stride
+in-grid c = let s = sides (c .before .before .before) in rows-end _ _ (omega arith)
+
+side-requires : tie.Need-side-requires Inv-loop μ-loop
+side-requires c κs = search needs
+
+sub-side : tie.Need-sub-side Inv-loop μ-loop
+sub-side c = search needs
+
+side-requires-2 : tie.Need-side-requires-2 Inv-loop μ-loop
+side-requires-2 c κs = search needs
+
+mul-x : tie.Need-mul-x Inv-loop μ-loop
+mul-x c = let s = sides c in omega arith
+
+mul-y : tie.Need-mul-y Inv-loop μ-loop
+mul-y c = let s = sides c in omega arith
+
+loop-holds : tie.Need-loop-holds Inv-loop μ-loop
+loop-holds c = (refl, omega arith, λ i l. block-none _ _ _ _ _ _ i)
+
+add-paint-run : tie.Need-add-paint-run Inv-loop μ-loop
+add-paint-run c = let s = sides (c .before .before .before) in omega arith
+
+mul-paint-run : tie.Need-mul-paint-run Inv-loop μ-loop
+mul-paint-run c = let s = sides (c .before .before .before) in omega (arith, in-grid c)
+
+add-paint-run-2 : tie.Need-add-paint-run-2 Inv-loop μ-loop
+add-paint-run-2 c = let s = sides (c .before .before .before) in omega (arith, in-grid c)
+
+paint-run-requires : tie.Need-paint-run-requires Inv-loop μ-loop
+paint-run-requires c κs = let s = sides (c .before .before .before) in omega (arith, in-grid c)
+
+add-row : tie.Need-add-row Inv-loop μ-loop
+add-row c = let s = sides (c .before .before .before .before .before .before) in omega arith
+
+loop-less : tie.Need-loop-less Inv-loop μ-loop
+loop-less c = omega arith
+
+loop-again : tie.Need-loop-again Inv-loop μ-loop
+loop-again c =
+    let at-loop = c .before .before .before .before .before in
+    let a = at-loop .before .before .before .before .args in
+    let s = sides (at-loop .before) in
+    let run = c .before .before .paint-run in
+    let more : at-loop .loop .row < 2 ^ (a .k - a .level) = rw (s .side-is) at (c .before .before .before .before .loop-test .taken) in
+    let wide : a .p * 2 ^ (a .k - a .level) + 2 ^ (a .k - a .level) ≤ 2 ^ (a .k) = room (a .k) (a .level) (a .p) (omega arith) (at-loop .before .before .before .before .pre .1 .column) in (
+      run .ensures .long ∙ at-loop .loop .inv .0,
+      omega arith,
+      λ i l. block-more (a .k) (a .k - a .level) (a .p) (a .q) (a .colour) (getD (a .place .now) i 0) (getD (at-loop .loop .place) i 0) _ (at-loop .loop .row) i _ _ (s .stride-is) (s .side-is) more wide (at-loop .loop .inv .2 i l) (run .ensures .each i (omega arith)),
+    )
+
+same-length : tie.Need-same-length Inv-loop μ-loop
+same-length c = omega arith
+
+returns : tie.Need-returns Inv-loop μ-loop
+returns c =
+    let at-loop = c .before in
+    let a = at-loop .before .before .before .before .args in
+    let s = sides (at-loop .before) in
+    let past : at-loop .loop .row ≡ 2 ^ (a .k - a .level) = omega arith in
+    record {
+      long = at-loop .loop .inv .0;
+      each = λ i l. block-all (a .k) (a .k - a .level) (a .p) (a .q) (a .colour) _ _ i (rw past at (at-loop .loop .inv .2 i l));
+    }
+
+pub paint-block-spec : {M : Type 1} → statement M
+paint-block-spec =
+    tie.close
+    (tie.spec
+    Inv-loop
+    μ-loop
+    side-requires
+    sub-side
+    side-requires-2
+    mul-x
+    mul-y
+    loop-holds
+    add-paint-run
+    mul-paint-run
+    add-paint-run-2
+    paint-run-requires
+    add-row
+    loop-less
+    loop-again
+    same-length
+    returns)

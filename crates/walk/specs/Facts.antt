@@ -1,0 +1,45 @@
+-- What the promises of the calls that walk say of the places that a call leaves, for every outcome that satisfies them. That they hold is proofs/Facts.
+use mathlib.Core.Path.{_≡_}
+use mathlib.Core.List.{List}
+use Prim.Native.Nat.{ℕ, _+_, _*_, _^_, _≤_, _<_}
+use lib.IntN.{ℤ, pos}
+use lib.ListN.{length, getD}
+use lib.Signed.{_<ℤ_}
+use Rattle.verdicts.specs.Walking.{colour, listing}
+use Rattle.page.specs.Sheet.{Sheet}
+use Rattle.page.specs.Scaled.{InCell, value-at, MeetsCurve}
+use Rattle.page.specs.Bounds.{bend}
+use Rattle.page.specs.Refusals.{refusal, to-walk}
+use Rattle.walk.specs.declared.Tallied.{Tallied}
+use Rattle.walk.specs.declared.Listed.{Listed}
+use Rattle.walk.specs.Answers.{verdicts}
+use Rattle.walk.specs.Promises.{RasterPromise, ListingPromise}
+
+-- ---- the bytes that `raster` leaves where nothing is refused: the one at q·2^k + p is for the finest cell at column p, row q
+-- it is the raster's byte, the colour of the cell
+abbrev pub PrintedByte : Type 0
+PrintedByte = (S : Sheet) (mode : ℕ) (old : List ℕ) (r : Tallied) (now : List ℕ) → RasterPromise S mode old r now → refusal (to-walk S mode (length old)) ≡ 0 →
+    (p q : ℕ) → p < 2 ^ S .k → q < 2 ^ S .k → getD now (q * 2 ^ S .k + p) 0 ≡ colour (verdicts S mode) (S .k) p q
+
+-- demand 3: where it is 2 the value is positive at every point of the cell, edges included, and where it is 3 negative
+abbrev pub PrintedSigned : Type 0
+PrintedSigned = (S : Sheet) (mode : ℕ) (old : List ℕ) (r : Tallied) (now : List ℕ) → RasterPromise S mode old r now → refusal (to-walk S mode (length old)) ≡ 0 →
+    (p q : ℕ) → p < 2 ^ S .k → q < 2 ^ S .k → (M N : ℤ) (Q : ℕ) → 1 ≤ Q → InCell S (S .k) p q M N Q →
+    (getD now (q * 2 ^ S .k + p) 0 ≡ 2 → pos 0 <ℤ value-at S M N Q) × (getD now (q * 2 ^ S .k + p) 0 ≡ 3 → value-at S M N Q <ℤ pos 0)
+
+-- and where it is 1 and the cell has no bend, the cell meets the curve
+abbrev pub PrintedMeets : Type 0
+PrintedMeets = (S : Sheet) (mode : ℕ) (old : List ℕ) (r : Tallied) (now : List ℕ) → RasterPromise S mode old r now → refusal (to-walk S mode (length old)) ≡ 0 →
+    (p q : ℕ) → p < 2 ^ S .k → q < 2 ^ S .k → getD now (q * 2 ^ S .k + p) 0 ≡ 1 → bend S (S .k) p q ≡ 0 → MeetsCurve S (S .k) p q
+
+-- ---- what stays as it was, of the place lent to `raster` and of the one lent to `listing`
+-- everything, where the call is refused
+abbrev pub RefusedUnchanged : Type 0
+RefusedUnchanged = (S : Sheet) (mode : ℕ) (old now : List ℕ) → (refusal (to-walk S mode (length old)) ≡ 0 → ⊥) →
+    ((r : Tallied) → RasterPromise S mode old r now → now ≡ old) × ((r : Listed) → ListingPromise S mode old r now → now ≡ old)
+
+-- and else how long the place is, and every entry after the last one written: of a raster those from 4^k on, of a listing those from its length on
+abbrev pub LaterUnchanged : Type 0
+LaterUnchanged = (S : Sheet) (mode : ℕ) (old now : List ℕ) → refusal (to-walk S mode (length old)) ≡ 0 →
+    ((r : Tallied) → RasterPromise S mode old r now → (length now ≡ length old) × ((i : ℕ) → 4 ^ S .k ≤ i → getD now i 0 ≡ getD old i 0))
+    × ((r : Listed) → ListingPromise S mode old r now → (length now ≡ length old) × ((i : ℕ) → length (listing (verdicts S mode) (S .k)) ≤ i → getD now i 0 ≡ getD old i 0))

@@ -1,0 +1,59 @@
+-- What the contracts of the walk's own functions say. None of it is the page's.
+use mathlib.Core.Path.{_≡_}
+use mathlib.Core.Bool.{Bool, cond, _&&_}
+use mathlib.Core.List.{List}
+use Prim.Native.Nat.{ℕ, _+_, _-_, _/_, _%_, _^_, _≤_, _<_}
+use lib.Dec.{leb, ltb, eqb}
+use lib.ListN.{length, getD}
+use lib.Seq.{sets}
+use Rattle.verdicts.specs.Walking.{Verdicts}
+use Rattle.verdicts.specs.Operational.{visited-from, coloured-from, records-from, colour-from}
+use Rattle.walk.specs.declared.Seen.{Seen}
+use Rattle.walk.specs.declared.Entered.{Entered}
+
+-- ---- a list is as long as it was; where `has` says so the entry is the new one, and else the old one
+pub record Painted (has : ℕ → Bool) (new : ℕ → ℕ) (old now : List ℕ) : Type 0 where
+  pub long : length now ≡ length old
+  pub each : (i : ℕ) → i < length old → getD now i 0 ≡ cond (has i) (new i) (getD old i 0)
+
+-- `paint_run`: n entries from `at` on
+abbrev pub in-run : ℕ → ℕ → ℕ → Bool
+in-run at n i = leb at i && ltb i (at + n)
+
+abbrev pub Run : ℕ → ℕ → ℕ → List ℕ → List ℕ → Type 0
+Run at n c old now = Painted (in-run at n) (λ i. c) old now
+
+-- `paint_block`: the finest cell of entry i lies in the cell p, q that is n levels above it
+abbrev pub in-block : ℕ → ℕ → ℕ → ℕ → ℕ → Bool
+in-block k n p q i = eqb (i % 2 ^ k / 2 ^ n) p && eqb (i / 2 ^ k / 2 ^ n) q
+
+abbrev pub Block : ℕ → ℕ → ℕ → ℕ → ℕ → List ℕ → List ℕ → Type 0
+Block k n p q c old now = Painted (in-block k n p q) (λ i. c) old now
+
+-- ---- `one_cell` and `cut_cell`
+abbrev pub one-seen : ℕ → Seen
+one-seen colour = record { visited = 1; coloured = cond (eqb colour 1) 1 0 }
+
+abbrev pub cut-seen : Seen → Seen → Seen → Seen → Seen
+cut-seen a b c d = record { visited = 1 + a .visited + b .visited + c .visited + d .visited; coloured = a .coloured + b .coloured + c .coloured + d .coloured }
+
+-- as few as a whole sheet has
+pub record Few (r : Seen) : Type 0 where
+  pub visits : r .visited ≤ 21_845
+  pub colours : r .coloured ≤ 16_384
+
+-- ---- what is seen of a cell is what the walk counts
+pub record Counted (v : Verdicts) (k level p q : ℕ) (r : Seen) : Type 0 where
+  pub visits : r .visited ≡ visited-from v level (k - level) p q
+  pub colours : r .coloured ≡ coloured-from v level (k - level) p q
+
+-- `examine` and `cut`: the finest cells in the cell get their colours, and no other entry changes
+pub record Examined (v : Verdicts) (k level p q : ℕ) (old now : List ℕ) (r : Seen) : Type 0 where
+  pub painted : Painted (in-block k (k - level) p q) (λ i. colour-from v level (k - level) (i % 2 ^ k) (i / 2 ^ k)) old now
+  pub counted : Counted v k level p q r
+
+-- `list_cell` and `list_parts`: the cell's records are written from `at` on, and no other entry changes
+pub record Recorded (v : Verdicts) (k level p q at : ℕ) (old now : List ℕ) (r : Entered) : Type 0 where
+  pub ends : r .end ≡ at + length (records-from v level (k - level) p q)
+  pub written : now ≡ sets old at (records-from v level (k - level) p q)
+  pub counted : Counted v k level p q (r .seen)

@@ -1,0 +1,91 @@
+// The calls that walk a sheet: its raster and its listing, each with the tally.
+mod cell;
+mod examine;
+mod list;
+mod paint;
+mod refusals;
+
+ghost use Rattle.page.specs.Sheet.{sheet-of};
+ghost use Rattle.walk.specs.Promises.{RasterPromise, ListingPromise};
+
+// The tally, or a refusal.
+pub enum Tallied {
+    Tally { visited: u32, coloured: u32 },
+    Refused(u32),
+}
+
+// The number of records and the tally, or a refusal.
+pub enum Listed {
+    Records {
+        length: usize,
+        visited: u32,
+        coloured: u32,
+    },
+    Refused(u32),
+}
+
+// What a walk has seen: cells visited, and finest cells coloured.
+pub struct Seen {
+    pub visited: u32,
+    pub coloured: u32,
+}
+
+// Where the records written so far end, and what the walk has seen.
+pub struct Entered {
+    pub end: usize,
+    pub seen: Seen,
+}
+
+// The raster of a sheet: the byte at q·2^k + p for the finest cell at column p, row q.
+pub fn raster(
+    d: u32,
+    coefficients: &[i32],
+    x: i32,
+    y: i32,
+    s: u32,
+    k: u32,
+    mode: u32,
+    place: &mut [u8],
+) -> Tallied
+    ensures { λ r. ⌜ RasterPromise (sheet-of d (now (coefficients .entry)) x y s k) mode (now (place .entry)) r (now (place .exit)) ⌝ }
+{
+    let refusal = refusals::walk_refusal(d, coefficients, x, y, s, k, mode, place.len());
+    if refusal != 0 {
+        return Tallied::Refused(refusal);
+    }
+    let form = cells::scaled_form(d, coefficients, k);
+    let frame = cells::frame_of(x, y, s, k, mode);
+    let seen = examine::examine(place, form, frame, 0, 0, 0);
+    Tallied::Tally {
+        visited: seen.visited,
+        coloured: seen.coloured,
+    }
+}
+
+// The listing of a sheet: one record per cleared or coloured cell in walking order.
+pub fn listing(
+    d: u32,
+    coefficients: &[i32],
+    x: i32,
+    y: i32,
+    s: u32,
+    k: u32,
+    mode: u32,
+    place: &mut [u32],
+) -> Listed
+    ensures { λ r. ⌜ ListingPromise (sheet-of d (now (coefficients .entry)) x y s k) mode (now (place .entry)) r (now (place .exit)) ⌝ }
+{
+    let refusal = refusals::walk_refusal(d, coefficients, x, y, s, k, mode, place.len());
+    if refusal != 0 {
+        return Listed::Refused(refusal);
+    }
+    let form = cells::scaled_form(d, coefficients, k);
+    let frame = cells::frame_of(x, y, s, k, mode);
+    let entered = list::list_cell(place, 0, form, frame, 0, 0, 0);
+    let seen = entered.seen;
+    Listed::Records {
+        length: entered.end,
+        visited: seen.visited,
+        coloured: seen.coloured,
+    }
+}
