@@ -1,3 +1,3 @@
 pub mod Scaling
 pub mod Forms
-pub mod Ground
+pub mod Grounds

@@ -1,9 +1,8 @@
--- The cells of a sheet on the machine: what the contracts of `frame_of` and `cell_range` say. None of it is the page's; proofs/Ground shows that it gives the page's verdicts and bends.
+-- The cells of a sheet on the machine: what the contracts of `ground_of` and `cell_range` say. None of it is the page's; proofs/Grounds shows that it gives the page's verdicts and bends.
 use mathlib.Core.Path.{_≡_}
 use Prim.Native.Nat.{ℕ, _+_, _*_, _-_, _^_, _≤_}
 use lib.IntN.{ℤ, pos, _+ℤ_, _*ℤ_}
 use Rattle.forms.specs.Plane.{moved}
-use Rattle.local.specs.declared.Form.{Form}
 use Rattle.local.specs.declared.Range.{Range}
 use Rattle.local.specs.Table.{held, Tabled}
 use Rattle.local.specs.Range.{mode-of, judged, lower-of, upper-of, bend-of}
@@ -11,42 +10,39 @@ use Rattle.verdicts.specs.Walking.{Verdicts}
 use Rattle.page.specs.Sheet.{Sheet}
 use Rattle.page.specs.Scaled.{scaled}
 use Rattle.page.specs.Weight.{Accepted}
-use Rattle.cells.specs.declared.Frame.{Frame}
+use Rattle.cells.specs.declared.Ground.{Ground}
 
--- the frame of a square
-abbrev pub framed : ℤ → ℤ → ℕ → ℕ → ℕ → Frame
-framed x y s k mode = record { across = pos (2 ^ (k + 1)) *ℤ x; along = pos (2 ^ (k + 1)) *ℤ y; s = s; k = k; mode = mode }
+-- `ground_of`: the scaled form of the sheet, the corner of its square in scaled units, its side and depth, and the mode
+pub record GroundOf (S : Sheet) (mode : ℕ) (g : Ground) : Type 0 where
+  pub tabled : Tabled (S .d) (scaled S) (g .form)
+  pub across : g .across ≡ pos (2 ^ (S .k + 1)) *ℤ S .X
+  pub along : g .along ≡ pos (2 ^ (S .k + 1)) *ℤ S .Y
+  pub side : g .s ≡ S .s
+  pub depth : g .k ≡ S .k
+  pub moded : g .mode ≡ mode
 
--- ---- the table of a form about the centre of a cell, and the verdict and the bend by it
-abbrev pub half-in : Frame → ℕ → ℕ
-half-in frame j = 2 ^ (frame .s + frame .k - j)
-
-abbrev pub table-in : Form → Frame → ℕ → ℕ → ℕ → ℕ → ℕ → ℤ
-table-in form frame j p q =
-    moved (form .degree) (held form) (frame .across +ℤ pos ((2 * p + 1) * half-in frame j)) (frame .along +ℤ pos ((2 * q + 1) * half-in frame j)) (pos (half-in frame j))
-
-unfoldable pub verdicts-in : Form → Frame → Verdicts
-verdicts-in form frame j p q =
-    judged (lower-of (form .degree) (mode-of (frame .mode)) (table-in form frame j p q)) (upper-of (form .degree) (mode-of (frame .mode)) (table-in form frame j p q))
-
-unfoldable pub bend-in : Form → Frame → ℕ → ℕ → ℕ → ℕ
-bend-in form frame j p q = bend-of (form .degree) (table-in form frame j p q)
-
--- ---- the form is the scaled one of an accepted sheet, and the frame that of its square
-pub record GroundOf (S : Sheet) (form : Form) (frame : Frame) : Type 0 where
-  pub tabled : Tabled (S .d) (scaled S) form
-  pub across : frame .across ≡ pos (2 ^ (S .k + 1)) *ℤ S .X
-  pub along : frame .along ≡ pos (2 ^ (S .k + 1)) *ℤ S .Y
-  pub side : frame .s ≡ S .s
-  pub depth : frame .k ≡ S .k
-
-pub record Ground (form : Form) (frame : Frame) : Type 0 where
+-- a ground that cells can be measured on: that of an accepted sheet, in mode 0 or 1
+pub record Firm (g : Ground) : Type 0 where
   pub sheet : Sheet
   pub accepted : Accepted sheet
-  pub of : GroundOf sheet form frame
-  pub mode : frame .mode ≤ 1
+  pub of : GroundOf sheet (g .mode) g
+  pub mode : g .mode ≤ 1
+
+-- ---- the table of the form about the centre of a cell, and the verdict and the bend by it
+abbrev pub half-in : Ground → ℕ → ℕ
+half-in g j = 2 ^ (g .s + g .k - j)
+
+abbrev pub table-in : Ground → ℕ → ℕ → ℕ → ℕ → ℕ → ℤ
+table-in g j p q =
+    moved (g .form .degree) (held (g .form)) (g .across +ℤ pos ((2 * p + 1) * half-in g j)) (g .along +ℤ pos ((2 * q + 1) * half-in g j)) (pos (half-in g j))
+
+unfoldable pub verdicts-in : Ground → Verdicts
+verdicts-in g j p q = judged (lower-of (g .form .degree) (mode-of (g .mode)) (table-in g j p q)) (upper-of (g .form .degree) (mode-of (g .mode)) (table-in g j p q))
+
+unfoldable pub bend-in : Ground → ℕ → ℕ → ℕ → ℕ
+bend-in g j p q = bend-of (g .form .degree) (table-in g j p q)
 
 -- `cell_range`
-pub record CellRanged (form : Form) (frame : Frame) (j p q : ℕ) (r : Range) : Type 0 where
-  pub verdict : r .verdict ≡ verdicts-in form frame j p q
-  pub bend : r .bend ≡ bend-in form frame j p q
+pub record CellRanged (g : Ground) (j p q : ℕ) (r : Range) : Type 0 where
+  pub verdict : r .verdict ≡ verdicts-in g j p q
+  pub bend : r .bend ≡ bend-in g j p q

@@ -1,12 +1,14 @@
-// The range of a cell, from the scaled form of its sheet and the frame.
-use crate::Frame;
-use local::Form;
+// The ground of a sheet, and the range of a cell on it.
+use crate::Ground;
+use crate::scale::scaled_form;
 use local::Range;
 ghost use mathlib.Core.Path.{_≡_};
 ghost use Prim.Native.Nat.{_+_, _*_, _-_, _^_, _≤_, _<_};
 ghost use lib.IntN.{pos, _+ℤ_, _*ℤ_, natAbs};
 ghost use Rattle.page.specs.Scaled.{IsCell};
-ghost use Rattle.cells.specs.Cell.{framed, Ground, CellRanged};
+ghost use Rattle.page.specs.Sheet.{sheet-of};
+ghost use Rattle.page.specs.Weight.{Accepted};
+ghost use Rattle.cells.specs.Cell.{Firm, GroundOf, CellRanged};
 
 // 2^(k+1)·X, and so of Y
 fn corner(z: i32, k: u32) -> i64
@@ -16,14 +18,16 @@ fn corner(z: i32, k: u32) -> i64
     numbers::product(numbers::power(k + 1), numbers::wide(z))
 }
 
-// The frame of a square: once for a sheet.
-pub fn frame_of(x: i32, y: i32, s: u32, k: u32, mode: u32) -> Frame
-    requires { ⌜ (natAbs x ≤ 1_048_576) × (natAbs y ≤ 1_048_576) × (k ≤ 7) ⌝ }
-    ensures { λ r. ⌜ r ≡ framed x y s k mode ⌝ }
+// The ground of an accepted sheet.
+pub fn ground_of(d: u32, coefficients: &[i32], x: i32, y: i32, s: u32, k: u32, mode: u32) -> Ground
+    requires { ⌜ Accepted (sheet-of d (now coefficients) x y s k) ⌝ }
+    ensures { λ r. ⌜ GroundOf (sheet-of d (now (coefficients .entry)) x y s k) mode r ⌝ }
 {
+    let form = scaled_form(d, coefficients, k);
     let across = corner(x, k);
     let along = corner(y, k);
-    Frame {
+    Ground {
+        form,
         across,
         along,
         s,
@@ -50,13 +54,14 @@ fn centre(corner: i64, p: u32, h: i64) -> i64
 }
 
 // The verdict on the cell at level j, column p, row q, and its bend.
-pub fn cell_range(form: Form, frame: Frame, j: u32, p: u32, q: u32) -> Range
-    requires { ⌜ Ground form frame × IsCell (frame .k) j p q ⌝ }
-    ensures { λ r. ⌜ CellRanged form frame j p q r ⌝ }
+pub fn cell_range(ground: Ground, j: u32, p: u32, q: u32) -> Range
+    requires { ⌜ Firm ground × IsCell (ground .k) j p q ⌝ }
+    ensures { λ r. ⌜ CellRanged ground j p q r ⌝ }
 {
-    let h = half_side(frame.s, frame.k, j);
-    let u = centre(frame.across, p, h);
-    let v = centre(frame.along, q, h);
+    let h = half_side(ground.s, ground.k, j);
+    let u = centre(ground.across, p, h);
+    let v = centre(ground.along, q, h);
+    let form = ground.form;
     let there = local::local_form(form, u, v, h);
-    local::local_range(there, frame.mode)
+    local::local_range(there, ground.mode)
 }

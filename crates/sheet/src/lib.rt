@@ -74,9 +74,8 @@ pub fn bounds(
     if refusal != 0 {
         return Bounded::Refused(refusal);
     }
-    let form = cells::scaled_form(d, coefficients, k);
-    let frame = cells::frame_of(x, y, s, k, mode);
-    let range = cells::cell_range(form, frame, j, p, q);
+    let ground = cells::ground_of(d, coefficients, x, y, s, k, mode);
+    let range = cells::cell_range(ground, j, p, q);
     let verdict = range.verdict;
     Bounded::Cell {
         verdict,

@@ -8,16 +8,15 @@ use lib.Dec.{eqb}
 use lib.Pow.{pow-add}
 use mir.Syntax.{w32}
 use mir.Val.{Fits}
-use Rattle.local.specs.declared.Form.{Form}
 use Rattle.verdicts.specs.declared.Verdict.{Verdict}
 use Rattle.verdicts.specs.Walking.{Verdicts, colour-of, record-of}
 use Rattle.verdicts.specs.Operational.{visited-from, coloured-from, records-from, colour-from}
 use Rattle.verdicts.proofs.Cells.{Opened, clears, opens, kind, levels-below, visited-cleared, visited-last, visited-open, coloured-cleared, coloured-last, coloured-open, records-cleared, records-last, colour-cleared, colour-last}
 use Rattle.verdicts.proofs.Bounds.{visited-small, coloured-small}
 use Rattle.page.specs.Scaled.{IsCell}
-use Rattle.cells.specs.declared.Frame.{Frame}
-use Rattle.cells.specs.Cell.{Ground}
-use Rattle.cells.proofs.Ground.{cell-small}
+use Rattle.cells.specs.declared.Ground.{Ground}
+use Rattle.cells.specs.Cell.{Firm}
+use Rattle.cells.proofs.Grounds.{cell-small}
 use Rattle.walk.specs.declared.Seen.{Seen}
 use Rattle.walk.specs.Steps.{one-seen, cut-seen, Few, Counted}
 
@@ -82,7 +81,7 @@ part-on-grid k level p q l o x y a b = record {
 }
 
 -- and its column and its row fit 32 bits
-module _ {form : Form} {frame : Frame} {level p q : ℕ} (g : Ground form frame) (o : IsCell (frame .k) level p q) where
+module _ {ground : Ground} {level p q : ℕ} (g : Firm ground) (o : IsCell (ground .k) level p q) where
   pub column-fits : Fits w32 (2 * p + 1)
   column-fits = omega (arith, cell-small g level p q o .0)
 

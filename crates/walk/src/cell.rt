@@ -1,14 +1,13 @@
 // One cell of a walk: its colour, what is seen of it, and its record.
 use crate::Seen;
-use cells::Frame;
-use local::Form;
+use cells::Ground;
 use verdicts::Verdict;
 ghost use mathlib.Core.Path.{_≡_};
 ghost use mathlib.Core.List.{[], _∷_};
 ghost use Prim.Native.Nat.{_≤_, _<_};
 ghost use Rattle.page.specs.Scaled.{IsCell};
 ghost use Rattle.verdicts.specs.Walking.{colour-of, record-of};
-ghost use Rattle.cells.specs.Cell.{Ground, verdicts-in};
+ghost use Rattle.cells.specs.Cell.{Firm, verdicts-in};
 ghost use Rattle.walk.specs.Steps.{one-seen, cut-seen, Few};
 
 // 2 for a cell above, 3 for one below, 1 for an open one
@@ -23,11 +22,11 @@ fn colour_of(verdict: Verdict) -> u8
 }
 
 // The colour of the cell by its own verdict.
-pub fn cell_colour(form: Form, frame: Frame, level: u32, p: u32, q: u32) -> u8
-    requires { ⌜ Ground form frame × IsCell (frame .k) level p q ⌝ }
-    ensures { λ r. ⌜ r ≡ colour-of (verdicts-in form frame level p q ∷ []) ⌝ }
+pub fn cell_colour(ground: Ground, level: u32, p: u32, q: u32) -> u8
+    requires { ⌜ Firm ground × IsCell (ground .k) level p q ⌝ }
+    ensures { λ r. ⌜ r ≡ colour-of (verdicts-in ground level p q ∷ []) ⌝ }
 {
-    let range = cells::cell_range(form, frame, level, p, q);
+    let range = cells::cell_range(ground, level, p, q);
     let verdict = range.verdict;
     colour_of(verdict)
 }

@@ -53,9 +53,8 @@ pub fn raster(
     if refusal != 0 {
         return Tallied::Refused(refusal);
     }
-    let form = cells::scaled_form(d, coefficients, k);
-    let frame = cells::frame_of(x, y, s, k, mode);
-    let seen = examine::examine(place, form, frame, 0, 0, 0);
+    let ground = cells::ground_of(d, coefficients, x, y, s, k, mode);
+    let seen = examine::examine(place, ground, 0, 0, 0);
     Tallied::Tally {
         visited: seen.visited,
         coloured: seen.coloured,
@@ -79,9 +78,8 @@ pub fn listing(
     if refusal != 0 {
         return Listed::Refused(refusal);
     }
-    let form = cells::scaled_form(d, coefficients, k);
-    let frame = cells::frame_of(x, y, s, k, mode);
-    let entered = list::list_cell(place, 0, form, frame, 0, 0, 0);
+    let ground = cells::ground_of(d, coefficients, x, y, s, k, mode);
+    let entered = list::list_cell(place, 0, ground, 0, 0, 0);
     let seen = entered.seen;
     Listed::Records {
         length: entered.end,

@@ -3,16 +3,14 @@ use mathlib.Core.Path.{_≡_, sym, _∙_, ap}
 use Prim.Native.Nat.{_≤_}
 use borrow.Author.Needs.{needs}
 use mir.Facts.{toZ-ofZ}
-use Rattle.local.specs.Table.{Tabled}
 use Rattle.page.specs.Sheet.{Sheet, sheet-of, mode-of}
-use Rattle.page.specs.Scaled.{scaled, IsCell}
+use Rattle.page.specs.Scaled.{IsCell}
 use Rattle.page.specs.Bounds.{bend, verdict}
 use Rattle.page.specs.Weight.{Accepted}
 use Rattle.page.specs.Refusals.{in-cell, refusal}
 use Rattle.page.proofs.Rows.{cell-passed, unless-refused, unless-none}
-use Rattle.cells.specs.Cell.{framed, GroundOf}
-use Rattle.cells.proofs.Scaling.{scalable}
-use Rattle.cells.proofs.Ground.{ground-of, ground, ground-verdicts, bend-is}
+use Rattle.cells.specs.Cell.{GroundOf}
+use Rattle.cells.proofs.Grounds.{firm, verdicts-are, bend-is}
 use Rattle.sheet.specs.declared.Bounded.{Bounded}
 use Rattle.sheet.specs.declared.Bounded.the-variants.{Cell, Refused}
 use Rattle.sheet.specs.Answers.{bounded}
@@ -36,15 +34,9 @@ passed c = let s = c .before .before in cell-passed (sheet s) (s .args .mode) (s
 abbrev values : tie.Start → Bounded
 values s = let a = s .args in Cell (verdict (sheet s) (mode-of (a .mode)) (a .j) (a .p) (a .q)) (bend (sheet s) (a .j) (a .p) (a .q))
 
--- ---- the ground of the sheet
-scaled-is : (c : tie.After-scaled-form) → let s = c .before .before .before in Tabled (s .args .d) (scaled (sheet s)) (c .scaled-form .result)
-scaled-is c = c .scaled-form .ensures
-
-frame-is : (c : tie.After-frame-of) → let a = c .before .before .before .before .args in c .frame-of .result ≡ framed (a .x) (a .y) (a .s) (a .k) (a .mode)
-frame-is c = let s = c .before .before .before .before in rw (toZ-ofZ (s .fits .x), toZ-ofZ (s .fits .y)) at (c .frame-of .ensures)
-
-ground-is : (c : tie.After-frame-of) → GroundOf (sheet (c .before .before .before .before)) (c .before .scaled-form .result) (c .frame-of .result)
-ground-is c = ground-of (c .before .before .before .before .args .mode) (scaled-is (c .before)) (frame-is c)
+-- the ground of the sheet
+ground-is : (c : tie.After-ground-of) → let s = c .before .before .before in GroundOf (sheet s) (s .args .mode) (c .ground-of .result)
+ground-is c = let s = c .before .before .before in rw (toZ-ofZ (s .fits .x), toZ-ofZ (s .fits .y)) at (c .ground-of .ensures)
 
 cell-refusal-requires : tie.Need-cell-refusal-requires
 cell-refusal-requires c κs = search needs
@@ -55,28 +47,20 @@ returns c =
     let s = c .before .before in let a = s .args in let e = refusal-is (c .before) in
     bounds-kept (sheet s) (a .mode) (a .j) (a .p) (a .q) (ap Refused e ∙ unless-refused Refused (values s) (refusal (in-cell (sheet s) (a .mode) (a .j) (a .p) (a .q))) (λ z. c .if1 .taken (e ∙ z)))
 
-scaled-form-requires : tie.Need-scaled-form-requires
-scaled-form-requires c κs = scalable (passed c .0)
-
-frame-of-requires : tie.Need-frame-of-requires
-frame-of-requires c κs =
-    let s = c .before .before .before in let r = passed (c .before) .0 .ranges in
-    rw (toZ-ofZ (s .fits .x), toZ-ofZ (s .fits .y)) (r .corner-x, r .corner-y, r .depth)
+ground-of-requires : tie.Need-ground-of-requires
+ground-of-requires c κs = let s = c .before .before in rw (toZ-ofZ (s .fits .x), toZ-ofZ (s .fits .y)) (passed c .0)
 
 cell-range-requires : tie.Need-cell-range-requires
-cell-range-requires c κs =
-    let h = passed (c .before .before) in
-    (ground (c .before .before .before .before .args .mode) (scaled-is (c .before)) (frame-is c) (h .0) (h .1), rw (ap (λ f. f .k) (frame-is c)) (h .2))
+cell-range-requires c κs = let h = passed (c .before) in let g = ground-is c in (firm (h .0) (h .1) g, rw (g .depth) (h .2))
 
 returns-2 : tie.Need-returns-2
 unfolding bounded
 returns-2 c =
-    let s = c .before .before .before .before .before in let a = s .args in let g = ground-is (c .before) in
-    let v : c .cell-range .result .verdict ≡ verdict (sheet s) (mode-of (a .mode)) (a .j) (a .p) (a .q) = c .cell-range .ensures .verdict ∙ ap (λ v. v (a .j) (a .p) (a .q)) (ground-verdicts (sheet s) (a .mode) (scaled-is (c .before .before)) (frame-is (c .before))) in
-    let b = c .cell-range .ensures .bend ∙ bend-is g (a .j) (a .p) (a .q) in
+    let s = c .before .before .before .before in let a = s .args in let g = ground-is (c .before) in
+    let v = c .cell-range .ensures .verdict ∙ ap (λ v. v (a .j) (a .p) (a .q)) (verdicts-are g) in let b = c .cell-range .ensures .bend ∙ bend-is g (a .j) (a .p) (a .q) in
     bounds-kept (sheet s) (a .mode) (a .j) (a .p) (a .q)
     (ap (λ w. Cell w (c .cell-range .result .bend)) v ∙ ap (λ n. Cell (verdict (sheet s) (mode-of (a .mode)) (a .j) (a .p) (a .q)) n) b
-    ∙ unless-none Refused (values s) (refusal (in-cell (sheet s) (a .mode) (a .j) (a .p) (a .q))) (sym (refusal-is (c .before .before .before .before)) ∙ c .before .before .before .if1 .left))
+    ∙ unless-none Refused (values s) (refusal (in-cell (sheet s) (a .mode) (a .j) (a .p) (a .q))) (sym (refusal-is (c .before .before .before)) ∙ c .before .before .if1 .left))
 
 pub bounds-spec : {M : Type 1} → statement M
 bounds-spec =
@@ -84,7 +68,6 @@ bounds-spec =
     (tie.spec
     cell-refusal-requires
     returns
-    scaled-form-requires
-    frame-of-requires
+    ground-of-requires
     cell-range-requires
     returns-2)

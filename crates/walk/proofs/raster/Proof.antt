@@ -1,18 +1,15 @@
 -- `walk::raster` meets its contract.
-use mathlib.Core.Path.{_≡_, sym, _∙_, ap}
+use mathlib.Core.Path.{_≡_, sym, _∙_}
 use Prim.Native.Nat.{_^_, _≤_}
 use borrow.Author.Needs.{needs}
 use lib.ListN.{length}
 use mir.Facts.{toZ-ofZ}
-use Rattle.local.specs.Table.{Tabled}
 use Rattle.page.specs.Sheet.{Sheet, sheet-of}
-use Rattle.page.specs.Scaled.{scaled}
 use Rattle.page.specs.Weight.{Accepted}
 use Rattle.page.specs.Refusals.{refusal, to-walk}
 use Rattle.page.proofs.Rows.{walk-passed}
-use Rattle.cells.specs.Cell.{framed}
-use Rattle.cells.proofs.Scaling.{scalable}
-use Rattle.cells.proofs.Ground.{ground, whole-on-grid, ground-verdicts}
+use Rattle.cells.specs.Cell.{GroundOf}
+use Rattle.cells.proofs.Grounds.{firm, whole-on-grid, verdicts-are}
 use Rattle.walk.specs.Answers.{verdicts}
 use Rattle.walk.specs.Steps.{Examined}
 use Rattle.walk.proofs.Whole.{raster-whole, counted-whole}
@@ -34,12 +31,9 @@ none c = sym (refusal-is (c .before)) ∙ c .if1 .left
 passed : (c : tie.Else1) → let s = c .before .before .before in Accepted (sheet s) × (s .args .mode ≤ 1) × (4 ^ s .args .k ≤ length (s .args .place .now))
 passed c = let s = c .before .before .before in walk-passed (sheet s) (s .args .mode) (length (s .args .place .now)) (none c)
 
--- ---- the ground of the sheet
-scaled-is : (c : tie.After-scaled-form) → let s = c .before .before .before .before in Tabled (s .args .d) (scaled (sheet s)) (c .scaled-form .result)
-scaled-is c = c .scaled-form .ensures
-
-frame-is : (c : tie.After-frame-of) → let a = c .before .before .before .before .before .args in c .frame-of .result ≡ framed (a .x) (a .y) (a .s) (a .k) (a .mode)
-frame-is c = let s = c .before .before .before .before .before in rw (toZ-ofZ (s .fits .x), toZ-ofZ (s .fits .y)) at (c .frame-of .ensures)
+-- the ground of the sheet
+ground-is : (c : tie.After-ground-of) → let s = c .before .before .before .before in GroundOf (sheet s) (s .args .mode) (c .ground-of .result)
+ground-is c = let s = c .before .before .before .before in rw (toZ-ofZ (s .fits .x), toZ-ofZ (s .fits .y)) at (c .ground-of .ensures)
 
 walk-refusal-requires : tie.Need-walk-refusal-requires
 walk-refusal-requires c κs = search needs
@@ -47,27 +41,21 @@ walk-refusal-requires c κs = search needs
 returns : tie.Need-returns
 returns c = let s = c .before .before .before in raster-refused (sheet s) (s .args .mode) (s .args .place .now) (refusal-is (c .before)) (c .if1 .taken)
 
-scaled-form-requires : tie.Need-scaled-form-requires
-scaled-form-requires c κs = scalable (passed c .0)
-
-frame-of-requires : tie.Need-frame-of-requires
-frame-of-requires c κs =
-    let s = c .before .before .before .before in let r = passed (c .before) .0 .ranges in rw (toZ-ofZ (s .fits .x), toZ-ofZ (s .fits .y)) (r .corner-x, r .corner-y, r .depth)
+ground-of-requires : tie.Need-ground-of-requires
+ground-of-requires c κs = let s = c .before .before .before in rw (toZ-ofZ (s .fits .x), toZ-ofZ (s .fits .y)) (passed c .0)
 
 examine-requires : tie.Need-examine-requires
-examine-requires c κs =
-    let f = c .before in let s = f .before .before .before .before .before in let h = passed (f .before .before) in let k = ap (λ r. r .k) (frame-is f) in
-    (ground (s .args .mode) (scaled-is (f .before)) (frame-is f) (h .0) (h .1), whole-on-grid (f .frame-of .result .k), rw k (h .2))
+examine-requires c κs = let g = ground-is (c .before) in let h = passed (c .before .before) in (firm (h .0) (h .1) g, whole-on-grid (c .before .ground-of .result .k), rw (g .depth) (h .2))
 
 same-length : tie.Need-same-length
 same-length c = search needs
 
 returns-2 : tie.Need-returns-2
 returns-2 c =
-    let e = c .before .before in let f = e .before .before in let s = f .before .before .before .before .before in let a = s .args in let v = verdicts (sheet s) (a .mode) in let k = ap (λ r. r .k) (frame-is f) in
-    let w : Examined v (a .k) 0 0 0 (a .place .now) (e .examine .last .0) (e .examine .result) = rw (ground-verdicts (sheet s) (a .mode) (scaled-is (f .before)) (frame-is f), k) at (e .examine .ensures) in
+    let e = c .before .before in let f = e .before .before in let g = ground-is f in let s = f .before .before .before .before in let a = s .args in let v = verdicts (sheet s) (a .mode) in
+    let w : Examined v (a .k) 0 0 0 (a .place .now) (e .examine .last .0) (e .examine .result) = rw (verdicts-are g, g .depth) at (e .examine .ensures) in
     let n = counted-whole v (a .k) (e .examine .result) (w .counted) in
-    raster-done (sheet s) (a .mode) (a .place .now) (none (f .before .before)) (n .0) (n .1) (raster-whole v (a .k) (a .place .now) _ (e .examine .result) (passed (f .before .before) .2) w)
+    raster-done (sheet s) (a .mode) (a .place .now) (none (f .before)) (n .0) (n .1) (raster-whole v (a .k) (a .place .now) _ (e .examine .result) (passed (f .before) .2) w)
 
 pub raster-spec : {M : Type 1} → statement M
 raster-spec =
@@ -75,8 +63,7 @@ raster-spec =
     (tie.spec
     walk-refusal-requires
     returns
-    scaled-form-requires
-    frame-of-requires
+    ground-of-requires
     examine-requires
     same-length
     returns-2)

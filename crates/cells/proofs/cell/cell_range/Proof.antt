@@ -1,4 +1,4 @@
--- `cells::cell::cell_range` meets its contract: each number is what the machine reads, and the rest is `Ground`.
+-- `cells::cell::cell_range` meets its contract: each number is what the machine reads, and the rest is `Grounds`.
 use mathlib.Core.Path.{_≡_, _∙_}
 use Prim.Native.Nat.{_+_, _*_}
 use native.Mathlib.Omega.{arith}
@@ -10,28 +10,28 @@ use mir.Facts.{toZ-ofZ}
 use Rattle.local.specs.Table.{Tabled}
 use Rattle.numbers.proofs.Machine.{fits64, read64}
 use Rattle.cells.specs.Cell.{half-in, table-in}
-use Rattle.cells.proofs.Ground.{across-small, along-small, cell-small, cell-movable, cell-light, cell-ranged}
+use Rattle.cells.proofs.Grounds.{across-small, along-small, cell-small, cell-movable, cell-light, cell-ranged}
 use Rattle.cells.proofs.cell.cell_range.Statement.{statement}
 use Rattle.cells.proofs.cell.cell_range.Tie as tie
 
 -- ---- what each number is
-half-is : (c : tie.After-half-side) → toZ w64 (ofZ w64 (c .half-side .result)) ≡ pos (half-in (c .before .args .frame) (c .before .args .j))
+half-is : (c : tie.After-half-side) → toZ w64 (ofZ w64 (c .half-side .result)) ≡ pos (half-in (c .before .args .ground) (c .before .args .j))
 half-is c = read64 (c .half-side .result) (c .half-side .ok) ∙ c .half-side .ensures
 
-corner-across : (c : tie.Start) → toZ w64 (ofZ w64 (c .args .frame .across)) ≡ c .args .frame .across
-corner-across c = toZ-ofZ (fits64 (c .args .frame .across) (omega (arith, across-small (c .pre .0))))
+corner-across : (c : tie.Start) → toZ w64 (ofZ w64 (c .args .ground .across)) ≡ c .args .ground .across
+corner-across c = toZ-ofZ (fits64 (c .args .ground .across) (omega (arith, across-small (c .pre .0))))
 
-corner-along : (c : tie.Start) → toZ w64 (ofZ w64 (c .args .frame .along)) ≡ c .args .frame .along
-corner-along c = toZ-ofZ (fits64 (c .args .frame .along) (omega (arith, along-small (c .pre .0))))
+corner-along : (c : tie.Start) → toZ w64 (ofZ w64 (c .args .ground .along)) ≡ c .args .ground .along
+corner-along c = toZ-ofZ (fits64 (c .args .ground .along) (omega (arith, along-small (c .pre .0))))
 
-u-is : (c : tie.After-centre) → let a = c .before .before .before .args in toZ w64 (ofZ w64 (c .centre .result)) ≡ a .frame .across +ℤ pos ((2 * a .p + 1) * half-in (a .frame) (a .j))
+u-is : (c : tie.After-centre) → let a = c .before .before .before .args in toZ w64 (ofZ w64 (c .centre .result)) ≡ a .ground .across +ℤ pos ((2 * a .p + 1) * half-in (a .ground) (a .j))
 u-is c = read64 (c .centre .result) (c .centre .ok) ∙ (rw (corner-across (c .before .before .before), half-is (c .before .before)) at (c .centre .ensures))
 
-v-is : (c : tie.After-centre2) → let a = c .before .before .before .before .before .args in toZ w64 (ofZ w64 (c .centre2 .result)) ≡ a .frame .along +ℤ pos ((2 * a .q + 1) * half-in (a .frame) (a .j))
+v-is : (c : tie.After-centre2) → let a = c .before .before .before .before .before .args in toZ w64 (ofZ w64 (c .centre2 .result)) ≡ a .ground .along +ℤ pos ((2 * a .q + 1) * half-in (a .ground) (a .j))
 v-is c = read64 (c .centre2 .result) (c .centre2 .ok) ∙ (rw (corner-along (c .before .before .before .before .before), half-is (c .before .before .before .before)) at (c .centre2 .ensures))
 
-there-is : (c : tie.After-local-form) → let a = c .before .before .before .before .before .before .args in Tabled (a .form .degree) (table-in (a .form) (a .frame) (a .j) (a .p) (a .q)) (c .local-form .result)
-there-is c = rw (u-is (c .before .before .before), v-is (c .before), half-is (c .before .before .before .before .before)) at (c .local-form .ensures)
+there-is : (c : tie.After-local-form) → let a = c .before .before .before .before .before .before .before .args in Tabled (a .ground .form .degree) (table-in (a .ground) (a .j) (a .p) (a .q)) (c .local-form .result)
+there-is c = rw (u-is (c .before .before .before .before), v-is (c .before .before), half-is (c .before .before .before .before .before .before)) at (c .local-form .ensures)
 
 half-side-requires : tie.Need-half-side-requires
 half-side-requires c κs = search needs
@@ -48,16 +48,16 @@ centre-requires-2 c κs =
 
 local-form-requires : tie.Need-local-form-requires
 local-form-requires c κs =
-    let s = c .before .before .before .before .before in let a = s .args in
-    rw (u-is (c .before .before), v-is c, half-is (c .before .before .before .before)) (cell-movable (s .pre .0) (a .j) (a .p) (a .q) (s .pre .1))
+    let s = c .before .before .before .before .before .before in let a = s .args in
+    rw (u-is (c .before .before .before), v-is (c .before), half-is (c .before .before .before .before .before)) (cell-movable (s .pre .0) (a .j) (a .p) (a .q) (s .pre .1))
 
 local-range-requires : tie.Need-local-range-requires
 local-range-requires c κs =
-    let s = c .before .before .before .before .before .before in let a = s .args in (s .pre .0 .mode, cell-light (s .pre .0) (a .j) (a .p) (a .q) (s .pre .1) (there-is c))
+    let s = c .before .before .before .before .before .before .before in let a = s .args in (s .pre .0 .mode, cell-light (s .pre .0) (a .j) (a .p) (a .q) (s .pre .1) (there-is c))
 
 returns : tie.Need-returns
 returns c =
-    let s = c .before .before .before .before .before .before .before in let a = s .args in cell-ranged (s .pre .0) (a .j) (a .p) (a .q) (s .pre .1) (there-is (c .before)) (c .local-range .ensures)
+    let s = c .before .before .before .before .before .before .before .before in let a = s .args in cell-ranged (s .pre .0) (a .j) (a .p) (a .q) (s .pre .1) (there-is (c .before)) (c .local-range .ensures)
 
 pub cell-range-spec : {M : Type 1} → statement M
 cell-range-spec =

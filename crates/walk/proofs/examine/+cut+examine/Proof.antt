@@ -8,7 +8,7 @@ use borrow.Fn.Kinds.{In, Out}
 use borrow.Fn.PlainCycle.{Measures, is, falls, and}
 use Rattle.page.specs.Scaled.{IsCell}
 use Rattle.cells.specs.Cell.{verdicts-in}
-use Rattle.cells.proofs.Ground.{depth-small, cell-small}
+use Rattle.cells.proofs.Grounds.{depth-small, cell-small}
 use Rattle.walk.proofs.Cells.{open-by, settled, few, part-on-grid, column-fits, row-fits}
 use Rattle.walk.proofs.Painting.{examined-one, examined-cut}
 use Rattle.walk.proofs.cell.cell_colour.Kinds as cell-colour-kinds
@@ -30,10 +30,10 @@ use Rattle.walk.proofs.examine.+cut+examine.Tie.{close}
 
 -- ---- the levels left: examining a cell comes before cutting it
 abbrev μ-cut : Measures 1 cut-kinds.ps ℕ
-μ-cut κs a = 2 * (a .1 .1 .0 .k - a .1 .1 .1 .0)
+μ-cut κs a = 2 * (a .1 .0 .k - a .1 .1 .0)
 
 abbrev μ-examine : Measures 1 examine-kinds.ps ℕ
-μ-examine κs a = 2 * (a .1 .1 .0 .k - a .1 .1 .1 .0) + 1
+μ-examine κs a = 2 * (a .1 .0 .k - a .1 .1 .0) + 1
 
 abbrev cut-at : ℕ → In 1 cut-kinds.ps
 cut-at t = and 1 cut-kinds.ps (is 1 cut-kinds.ps μ-cut t) cut.Pre
@@ -70,7 +70,7 @@ Cut t = cut-lts.Start (cut-calls t) (cut-at t) cut.Post
 small : (t : ℕ) (s : Cut t) → (s .args .p < 128) × (s .args .q < 128)
 small t s = let n = cell-small (s .pre .1 .0) _ _ _ (s .pre .1 .1) in (n .0, n .1)
 
-on-grid : (t : ℕ) (s : Cut t) (x y : ℕ) → x ≤ 2 * s .args .p + 1 → y ≤ 2 * s .args .q + 1 → IsCell (s .args .frame .k) (s .args .level + 1) x y
+on-grid : (t : ℕ) (s : Cut t) (x y : ℕ) → x ≤ 2 * s .args .p + 1 → y ≤ 2 * s .args .q + 1 → IsCell (s .args .ground .k) (s .args .level + 1) x y
 on-grid t s = part-on-grid _ _ _ _ (s .pre .1 .3) (s .pre .1 .1)
 
 cut-add-next : (t : ℕ) → cut-lts.Need-add-next (cut-calls t) (cut-at t) cut.Post
@@ -122,12 +122,12 @@ cut-same-length t c =
 cut-returns : (t : ℕ) → cut-lts.Need-returns (cut-calls t) (cut-at t) cut.Post
 cut-returns t c =
     let s = c .before .before .before .before .before .before .before .before .before .before .before .before .before .before .before .before .before .before in let a = s .args in
-    rw (c .cut-cell .ensures) (examined-cut (verdicts-in (a .form) (a .frame)) (a .frame .k) (a .level) (a .p) (a .q) _ _ _ _ _ _ _ _ _ (s .pre .1 .3) (open-by _ (s .pre .1 .4))
+    rw (c .cut-cell .ensures) (examined-cut (verdicts-in (a .ground)) (a .ground .k) (a .level) (a .p) (a .q) _ _ _ _ _ _ _ _ _ (s .pre .1 .3) (open-by _ (s .pre .1 .4))
     (c .before .before .before .before .before .before .before .before .before .before .before .before .before .before .before .examine .ensures) (c .before .before .before .before .before .before .before .before .before .before .before .examine2 .ensures) (c .before .before .before .before .before .before .before .examine3 .ensures) (c .before .before .before .examine4 .ensures))
 
 -- ---- examine
 -- a cell that is painted is not cut: it is cleared, or it is a finest one
-whole : (t : ℕ) (c : examine-lts.Joined1 (examine-calls t) (examine-at t) examine.Post) → let s = c .before .before .before in c .before .cell-colour .result ≡ 1 → s .args .frame .k - s .args .level ≡ 0
+whole : (t : ℕ) (c : examine-lts.Joined1 (examine-calls t) (examine-at t) examine.Post) → let s = c .before .before .before in c .before .cell-colour .result ≡ 1 → s .args .ground .k - s .args .level ≡ 0
 whole t c e = elim (c .if1 .came) [
   | inl h ↦ let l = h .1 .left in omega arith
   | inr h ↦ omega (arith, h .left, e)
@@ -158,7 +158,7 @@ examine-same-length-2 t c = search needs
 examine-returns-2 : (t : ℕ) → examine-lts.Need-returns-2 (examine-calls t) (examine-at t) examine.Post
 examine-returns-2 t c =
     let j = c .before .before .before .before .before in let s = j .before .before .before in let a = s .args in
-    rw (c .one-cell .ensures) (examined-one (verdicts-in (a .form) (a .frame)) (a .frame .k) (a .level) (a .p) (a .q) _ _ _ (settled _ (a .level) _ (a .p) (a .q) _ (j .before .cell-colour .ensures) (whole t j)) (c .before .before .before .paint-block .ensures))
+    rw (c .one-cell .ensures) (examined-one (verdicts-in (a .ground)) (a .ground .k) (a .level) (a .p) (a .q) _ _ _ (settled _ (a .level) _ (a .p) (a .q) _ (j .before .cell-colour .ensures) (whole t j)) (c .before .before .before .paint-block .ensures))
 
 pub +cut+examine-spec : {M : Type 1} → statement M
 +cut+examine-spec =

@@ -8,7 +8,7 @@ use borrow.Author.Needs.{needs}
 use borrow.Fn.Kinds.{In, Out}
 use borrow.Fn.PlainCycle.{Measures, is, falls, and}
 use Rattle.cells.specs.Cell.{verdicts-in}
-use Rattle.cells.proofs.Ground.{depth-small, cell-small}
+use Rattle.cells.proofs.Grounds.{depth-small, cell-small}
 use Rattle.walk.proofs.Cells.{open-by, Settled, settled, few, part-on-grid, column-fits, row-fits}
 use Rattle.walk.proofs.Recording.{recorded-one, recorded-cut, room-one, room-first, room-second, room-third, room-fourth}
 use Rattle.walk.proofs.cell.cell_colour.Kinds as cell-colour-kinds
@@ -30,10 +30,10 @@ use Rattle.walk.proofs.list.+list_cell+list_parts.Tie.{close}
 
 -- ---- the measures: twice the levels below the cell, and one more for `list_cell`
 abbrev μ-list-cell : Measures 1 list-cell-kinds.ps ℕ
-μ-list-cell κs a = 2 * (a .1 .1 .1 .0 .k - a .1 .1 .1 .1 .0) + 1
+μ-list-cell κs a = 2 * (a .1 .1 .0 .k - a .1 .1 .1 .0) + 1
 
 abbrev μ-list-parts : Measures 1 list-parts-kinds.ps ℕ
-μ-list-parts κs a = 2 * (a .1 .1 .1 .0 .k - a .1 .1 .1 .1 .0)
+μ-list-parts κs a = 2 * (a .1 .1 .0 .k - a .1 .1 .1 .0)
 
 abbrev list-cell-at : ℕ → In 1 list-cell-kinds.ps
 list-cell-at t = and 1 list-cell-kinds.ps (is 1 list-cell-kinds.ps μ-list-cell t) list-cell.Pre
@@ -98,7 +98,7 @@ list-cell-cell-record-requires t c κs =
 
 -- the place has an entry for the record of the cell itself
 list-cell-room : (t : ℕ) (s : list-cell-lts.Start (list-cell-calls t) (list-cell-at t) list-cell.Post) → s .args .at < length (s .args .place .now)
-list-cell-room t s = room-one (s .args .frame .k) (s .args .level) (s .args .at) (s .args .place .now) (s .pre .1 .2)
+list-cell-room t s = room-one (s .args .ground .k) (s .args .level) (s .args .at) (s .args .place .now) (s .pre .1 .2)
 
 list-cell-mul-place : (t : ℕ) → list-cell-lts.Need-mul-place (list-cell-calls t) (list-cell-at t) list-cell.Post
 list-cell-mul-place t c = omega (arith, list-cell-room t (c .before .before .before .before))
@@ -109,13 +109,13 @@ list-cell-slice-write-place t c = list-cell-room t (c .before .before .before .b
 list-cell-one-cell-requires : (t : ℕ) → list-cell-lts.Need-one-cell-requires (list-cell-calls t) (list-cell-at t) list-cell.Post
 list-cell-one-cell-requires t c κs = search needs
 
-list-cell-add-t15 : (t : ℕ) → list-cell-lts.Need-add-t15 (list-cell-calls t) (list-cell-at t) list-cell.Post
-list-cell-add-t15 t c = omega (arith, list-cell-room t (c .before .before .before .before .before))
+list-cell-add-end : (t : ℕ) → list-cell-lts.Need-add-end (list-cell-calls t) (list-cell-at t) list-cell.Post
+list-cell-add-end t c = omega (arith, list-cell-room t (c .before .before .before .before .before))
 
 -- a cell that is not cut: it is cleared, or it is a finest one
 list-cell-settled : (t : ℕ) (c : list-cell-lts.Joined1 (list-cell-calls t) (list-cell-at t) list-cell.Post) →
     let a = c .before .before .before .args in
-    Settled (verdicts-in (a .form) (a .frame)) (a .level) (a .frame .k - a .level) (a .p) (a .q) (c .before .cell-colour .result)
+    Settled (verdicts-in (a .ground)) (a .level) (a .ground .k - a .level) (a .p) (a .q) (c .before .cell-colour .result)
 list-cell-settled t c = settled _ _ _ _ _ _ (c .before .cell-colour .ensures) (λ e. elim (c .if1 .came) [
   | inl d ↦ omega arith
   | inr n ↦ absurd (n .left e)
@@ -224,7 +224,7 @@ pub +list-cell+list-parts-spec : {M : Type 1} → statement M
     (list-cell-mul-place t)
     (list-cell-slice-write-place t)
     (list-cell-one-cell-requires t)
-    (list-cell-add-t15 t)
+    (list-cell-add-end t)
     (list-cell-same-length-2 t)
     (list-cell-returns-2 t))
     (λ t. list-parts-lts.spec (list-parts-calls t) (list-parts-at t) list-parts.Post
