@@ -152,6 +152,7 @@ static struct range range_of(const struct form *form, uint32_t mode) {
 struct walk {
     const struct sheet *sheet;
     struct form form;
+    int64_t across, along;
     uint32_t visited, coloured;
     uint8_t *raster;
     uint32_t *records;
@@ -163,14 +164,14 @@ struct walk {
    for each cell. So the range of every cell is kept in the walk, and at its end the last one is read from there into this. */
 static volatile uint64_t sink;
 
-static int64_t centre(int32_t z, uint32_t k, uint32_t p, int64_t h) { return power(k + 1) * z + (2 * (int64_t)p + 1) * h; }
+static int64_t centre(int64_t corner, uint32_t p, int64_t h) { return corner + (2 * (int64_t)p + 1) * h; }
 
 static enum verdict verdict_on(struct walk *walk, uint32_t level, uint32_t p, uint32_t q) {
     const struct sheet *sheet = walk->sheet;
     int64_t h = power(sheet->s + sheet->k - level);
     struct form half, there;
-    turn(&walk->form, centre(sheet->y, sheet->k, q, h), h, &half);
-    turn(&half, centre(sheet->x, sheet->k, p, h), h, &there);
+    turn(&walk->form, centre(walk->along, q, h), h, &half);
+    turn(&half, centre(walk->across, p, h), h, &there);
     walk->last = range_of(&there, sheet->mode);
     walk->visited++;
     return walk->last.verdict;
@@ -278,7 +279,8 @@ static bool write_answer(const uint64_t words[5]) {
 static bool walk_sheet(const struct sheet *sheet, size_t entries, uint8_t *raster, uint32_t *records) {
     uint32_t number = refusal(sheet, entries);
     if (number != 0) return write_answer((uint64_t[5]){1, number});
-    struct walk walk = {.sheet = sheet, .form = scaled_form(sheet), .raster = raster, .records = records};
+    int64_t unit = power(sheet->k + 1);
+    struct walk walk = {.sheet = sheet, .form = scaled_form(sheet), .across = unit * sheet->x, .along = unit * sheet->y, .raster = raster, .records = records};
     if (raster != NULL) {
         examine(&walk, 0, 0, 0);
         sink = walk.last.bend;

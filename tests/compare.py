@@ -116,12 +116,16 @@ def answers_in(output, cases):
         yield words
 
 
+def settings():
+    """The environment without what would tell an emulator to do otherwise."""
+    return {name: setting for name, setting in os.environ.items() if not name.startswith("QEMU_")}
+
+
 def run(program, cases):
     """The program's answers."""
     if not program.is_file():
         sys.exit(f"compare: {program} is not there: `rt check` proves and builds it")
-    kept = {name: setting for name, setting in os.environ.items() if not name.startswith("QEMU_")}
-    ended = subprocess.run(command(program), input=b"".join(record(*case) for case in cases), capture_output=True, env=kept)
+    ended = subprocess.run(command(program), input=b"".join(record(*case) for case in cases), capture_output=True, env=settings())
     if ended.returncode != 0:
         sys.exit(f"compare: the program ended with status {ended.returncode}: {ended.stderr.decode(errors='replace')}")
     length = sum(40 + WIDTHS.get(call, 0) * entries_of(call, args) for call, args in cases)

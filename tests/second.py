@@ -244,7 +244,7 @@ def refusal(d, coefficients, X, Y, s, k, mode=None, entries=None, at=None, point
 
     Each condition is looked at only where none before it holds: a degree or a depth may be any 32-bit number, and
     the powers that later conditions speak of are then out of reach. Condition 9 is tried by the calls that are lent
-    a place, since only they walk; it never holds: at depth 7, 21,845 cells are all.
+    a place, since only they walk; where it is tried it does not hold: at depth 7, 21,845 cells are all.
     """
     def cell_outside():
         j, p, q = at

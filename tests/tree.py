@@ -19,6 +19,8 @@ import sys
 ROOT = pathlib.Path(__file__).resolve().parent.parent
 LONGEST = 400
 CALLS = ("sheet", "walk")
+# what is of Type 0 and no statement: a kind of thing
+KINDS = {("forms", "Points", "Point"), ("verdicts", "Walking", "Verdicts")}
 CITED = re.compile(r"`(crates/[^`]+\.antt)`((?:,?\s+`[^`/]+`)+)")
 PLACES = re.compile("/(?:" + "|".join(("opt", "home", "root", "work", "tmp", "usr")) + ")/")
 
@@ -118,8 +120,7 @@ def statements():
                 yield f"crates/{home}/proofs/{proof}.antt does not declare `pub {witness} : {name}`"
             elif not brings(path, crate, file, name):
                 yield f"crates/{home}/proofs/{proof}.antt does not bring in {name} from crates/{crate}/specs/{file}.antt"
-    files = {(crate, file) for crate, file, _ in met}
-    for crate, file, name in sorted(fact for fact in complete - met if fact[:2] in files):
+    for crate, file, name in sorted(complete - met - KINDS):
         yield f"docs/PROMISES.md has no theorem for the statement {name} of crates/{crate}/specs/{file}.antt"
 
 
@@ -143,12 +144,14 @@ def contracts():
             if len(ensured) != 1 or not found:
                 yield f"{crate}::{call} is a public call and has not one `ensures`"
                 continue
-            statement = found[2]
-            while re.search(r"\([^()]*\)", statement):
-                statement = re.sub(r"\([^()]*\)", "_", statement)
-            # a name, what it is applied to, and the outcome last, with the place afterwards where one is lent: no second statement beside it
-            promise = re.fullmatch(rf"(\w+)(?: \w+)* {found[1]}(?: _)?", statement)
-            name = promise[1] if promise else None
+            # the promise of the sheet that is given, of what else is given, of the outcome and of the place before and after: nothing beside it
+            lent = re.search(r"\bplace: &mut ", head)
+            promise = re.fullmatch(
+                r"(\w+) \(sheet-of d \(now \(coefficients \.entry\)\) x y s k\)((?: \w+)*)"
+                + (r" \(now \(place \.entry\)\) (\w+) \(now \(place \.exit\)\)" if lent else r" (\w+)"), found[2])
+            given = re.findall(r"\b(\w+): ", head.split("->")[0])
+            asked = [word for word in given if word not in ("d", "coefficients", "x", "y", "s", "k", "place")]
+            name = promise[1] if promise and promise[2].split() == asked and promise[3] == found[1] else None
             if not name or not re.search(rf"^(?:(?:abbrev|unfoldable) )*pub {name} : ", promised, re.M) or not brings(path, crate, "Promises", name):
                 yield f"{crate}::{call} ensures what is no promise of crates/{crate}/specs/Promises.antt"
 

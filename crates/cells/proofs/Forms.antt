@@ -84,7 +84,7 @@ module _ {S : Sheet} (a : Accepted S) {form : Form} (t : Tabled (S .d) (scaled S
 
   -- ---- about a cell's centre they are its local form
   module _ (j p q : ℕ) {r : Form} (w : Tabled (form .degree) (moved (form .degree) (held form) (U0 S j p) (V0 S j q) (pos (half-side S j))) r) where
-    pub local-held : Tabled (S .d) (G S j p q) r
+    local-held : Tabled (S .d) (G S j p q) r
     unfolding G moved
     local-held = moved-held (U0 S j p) (V0 S j q) (pos (half-side S j)) t w
 

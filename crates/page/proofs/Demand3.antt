@@ -35,7 +35,7 @@ use Rattle.page.proofs.Page.{polynomial, centre, value-is, F-is, G-is, 
 -- ---- the cell is the box
 module _ (S : Sheet) (j p q : ℕ) where
   pub in-box : {M N : ℤ} {Q : ℕ} → InCell S j p q M N Q → InBox (polynomial S) (centre S j p q) (half-side S j) (pair M N) Q
-  in-box {M} {N} {Q} c = in-plane (S .d) (2 ^ (S .k + 1)) (A S) (U0 S j p) (V0 S j q) (half-side S j) M N Q .0 (c .across, c .along)
+  in-box {M} {N} {Q} c = in-plane (S .d) (2 ^ (S .k + 1)) (A S) (U0 S j p) (V0 S j q) (half-side S j) M N Q .0 (omega (arith, c .across), omega (arith, c .along))
 
   from-box : {M N : ℤ} {Q : ℕ} → InBox (polynomial S) (centre S j p q) (half-side S j) (pair M N) Q → InCell S j p q M N Q
   from-box {M} {N} {Q} b = let h = in-plane (S .d) (2 ^ (S .k + 1)) (A S) (U0 S j p) (V0 S j q) (half-side S j) M N Q .1 b in record { across = h .0; along = h .1 }

@@ -16,7 +16,7 @@ use Rattle.algebra.proofs.Ring.{ring, _⊕_, _⊖_, _⊗_, ⊝_, #_, _≐_}
 use Rattle.verdicts.specs.declared.Verdict.{Verdict}
 use Rattle.verdicts.specs.declared.Verdict.the-variants.{Above, Below, Open}
 use Rattle.verdicts.specs.Walking.{is-open}
-use Rattle.verdicts.proofs.Reasons.{colour-above, colour-below, colour-open}
+use Rattle.verdicts.proofs.Reasons.{colour-above, colour-below, coloured-all-open}
 use Rattle.verdicts.proofs.Bytes.{raster-byte}
 use Rattle.page.specs.Scaled.{half-side, InCell}
 use Rattle.page.specs.Bounds.{verdict}
@@ -82,7 +82,7 @@ open-is (Open l u) e = (l, u, refl)
 pub coloured-meets : ColouredMeets
 coloured-meets S mode p q e z =
     let n : S .k - S .k ≡ 0 = omega arith in
-    let w = open-is (verdict S mode (S .k) p q) (rw (n, Nat.div-one p, Nat.div-one q) at (colour-open (verdict S mode) (S .k) p q e (S .k) (Nat.le-refl (S .k)))) in
+    let w = open-is (verdict S mode (S .k) p q) (rw (n, Nat.div-one p, Nat.div-one q) at (coloured-all-open (verdict S mode) (S .k) p q e (S .k) (Nat.le-refl (S .k)))) in
     open-meets S mode (S .k) p q (w .0) (w .1) (w .2) z
 
 -- ---- by the raster's byte, which is the colour

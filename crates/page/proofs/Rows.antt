@@ -103,7 +103,7 @@ module _ (S : Sheet) where
       unfolding table first range-refusal
       range-3 h = rw (le-ltb 8 (S .d) degree, eq-eqb (length (S .coefficients)) (count (S .d)) counted, lt-ltb 7 (S .k) h)
 
-      pub range-last : S .k ≤ 7 → range-refusal S ≡ cond (misframed S) 4 0
+      range-last : S .k ≤ 7 → range-refusal S ≡ cond (misframed S) 4 0
       unfolding table first range-refusal
       range-last h = rw (le-ltb 8 (S .d) degree, eq-eqb (length (S .coefficients)) (count (S .d)) counted, le-ltb 7 (S .k) h)
 
@@ -167,7 +167,7 @@ walk-passed S mode n e =
     let r = both-zero (mode-refusal S mode) _ (sym (walk-rows S mode n) ∙ e) in let o = mode-passed S mode (r .0) in let m = next-row (ltb n (4 ^ S .k)) 6 _ (r .1) in
     (o .0, o .1, ltb-false n (4 ^ S .k) (m .0))
 
--- row 9 never holds: visited is at most (4^8 - 1)/3
+-- row 9 does not hold where k is at most 7: visited is at most (4^8 - 1)/3
 pub no-row-9 : (S : Sheet) (mode : ℕ) → S .k ≤ 7 → ltb 65_535 (visited (verdict S (mode-of mode)) (S .k)) ≡ false
 no-row-9 S mode h =
     let v = visited-between (verdict S (mode-of mode)) (S .k) in let l : S .k + 1 ≤ 8 = omega arith in let m : 4 ^ (S .k + 1) ≤ 4 ^ 8 = Nat.pow-le-pow-right {n = 4} (lit< tt) l in

@@ -1,4 +1,4 @@
--- Demand 3 carried to the raster, and the row of the table that never holds, as statements of every sheet, accepted or not. That they hold is proofs/Raster.
+-- Demand 3 carried to the raster, and that number 9 is never given, as statements of every sheet, accepted or not. That they hold is proofs/Raster.
 use mathlib.Core.Path.{_≡_}
 use Prim.Native.Nat.{ℕ, _+_, _*_, _-_, _/_, _^_, _≤_, _<_}
 use lib.IntN.{ℤ, pos}

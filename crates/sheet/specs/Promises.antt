@@ -1,4 +1,4 @@
--- The promises of the public calls, as statements about an outcome r: the contracts of src/lib.rt cite them.
+-- The promises of `check`, `value` and `bounds`, as statements about an outcome r: the contracts of src/lib.rt cite them.
 use mathlib.Core.Path.{_≡_}
 use Prim.Native.Nat.{ℕ}
 use lib.IntN.{ℤ}

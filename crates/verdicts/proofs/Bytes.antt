@@ -1,7 +1,7 @@
 -- Which byte of the raster is whose.
 use mathlib.Core.Path.{_≡_, sym, _∙_, ap}
 use mathlib.Core.List.{map}
-use Prim.Native.Nat.{ℕ, zero, suc, _+_, _*_, _-_, _/_, _^_, _<_}
+use Prim.Native.Nat.{ℕ, zero, suc, _+_, _*_, _-_, _/_, _^_, _<_, _%_}
 use native.Mathlib.Nat as Nat
 use native.Mathlib.Omega.{arith}
 use lib.Arith.{digits-lt}
@@ -9,7 +9,7 @@ use lib.ListN.{getD}
 use lib.Pow.{high, low, pow-pos}
 use Rattle.algebra.specs.Sum.{run, span}
 use Rattle.algebra.proofs.Power.{*-pow}
-use Rattle.verdicts.specs.Walking.{raster}
+use Rattle.verdicts.specs.Walking.{Verdicts, colour, raster}
 use Rattle.verdicts.specs.Facts.{RasterByte}
 
 -- the byte at n is of a row of the grid
@@ -27,8 +27,10 @@ getD-map-run f a zero i h = absurd (omega arith)
 getD-map-run f a (suc n) zero h = ap f (sym (Nat.add-zero a))
 getD-map-run f a (suc n) (suc i) h = getD-map-run f (suc a) n i (omega arith) ∙ ap f (let e : suc a + i ≡ a + suc i = omega arith in e)
 
-pub raster-byte : RasterByte
+-- the byte at n is the colour of its finest cell
+pub raster-at : (v : Verdicts) (k n : ℕ) → n < 4 ^ k → getD (raster v k) n 0 ≡ colour v k (n % 2 ^ k) (n / 2 ^ k)
 unfolding raster span
-raster-byte v k p q h i =
-    getD-map-run _ 0 (4 ^ k - 0) (q * 2 ^ k + p) (rw Nat.sub-zero (byte-below k p q h i))
-    ∙ rw (Nat.zero-add (q * 2 ^ k + p), high q k h, low q k h)
+raster-at v k n h = getD-map-run _ 0 (4 ^ k - 0) n (rw Nat.sub-zero h) ∙ rw (Nat.zero-add n)
+
+pub raster-byte : RasterByte
+raster-byte v k p q h i = raster-at v k (q * 2 ^ k + p) (byte-below k p q h i) ∙ rw (high q k h, low q k h)

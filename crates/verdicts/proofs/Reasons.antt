@@ -129,9 +129,9 @@ none-decides f (i ∷ ls) h = elim (kind (f i)) [
   | opens s ↦ first-opened s (map f ls) ∙ none-decides f ls (λ l m. h l (List·Memᴰ·tail m))
 ]
 
-pub colour-open : (v : Verdicts) (k p q : ℕ) → colour v k p q ≡ 1 → (l : ℕ) → l ≤ k → is-open (enclosing v k p q l) ≡ true
+pub coloured-all-open : (v : Verdicts) (k p q : ℕ) → colour v k p q ≡ 1 → (l : ℕ) → l ≤ k → is-open (enclosing v k p q l) ≡ true
 unfolding colour
-colour-open v k p q e l h = undecided (enclosing v k p q) _ e l (member-⋯ _ k l (omega arith) h)
+coloured-all-open v k p q e l h = undecided (enclosing v k p q) _ e l (member-⋯ _ k l (omega arith) h)
 
 open-colour : (v : Verdicts) (k p q : ℕ) → ((l : ℕ) → l ≤ k → is-open (enclosing v k p q l) ≡ true) → colour v k p q ≡ 1
 unfolding colour
@@ -140,7 +140,7 @@ open-colour v k p q h = none-decides (enclosing v k p q) _ (λ l m. h l (⋯-mem
 -- ---- each colour exactly where its reason holds
 pub colour-means : ColourMeans
 colour-means v k p q = (
-  (colour-open v k p q, open-colour v k p q),
+  (coloured-all-open v k p q, open-colour v k p q),
   (colour-above v k p q, λ w. covered-colour v k p q 2 (w .level) (w .within) (w .reached) (cleared-above (sym (w .judged)))),
   (colour-below v k p q, λ w. covered-colour v k p q 3 (w .level) (w .within) (w .reached) (cleared-below (sym (w .judged)))),
 )

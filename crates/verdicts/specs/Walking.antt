@@ -1,4 +1,4 @@
--- Walking the sheet: colours, raster, listing and tally, for any verdicts on the cells. Nothing here says how the walk goes.
+-- Walking the sheet: colours, raster, listing and tally, for any verdicts on the cells. Nothing here cuts a cell: only the order of the records is that of a walk.
 use mathlib.Core.Bool.{Bool, true, false, not, _&&_, _||_, cond}
 use mathlib.Core.List.{List, [], _∷_, _++_, map}
 use Prim.Native.Nat.{ℕ, zero, suc, _+_, _*_, _-_, _/_, _%_, _^_}

@@ -5,15 +5,17 @@ use Prim.Native.Nat.{ℕ, _+_, _*_, _^_, _≤_}
 use native.Mathlib.Nat as Nat
 use native.Mathlib.Omega.{arith}
 use lib.ListN.{length, getD, drop, List·getD-append}
+use lib.Seq.{take-append-seam}
 use Rattle.verdicts.specs.Walking.{raster, listing}
 use Rattle.verdicts.proofs.Lengths.{raster-long, listing-long}
 use Rattle.verdicts.proofs.Bytes.{byte-below, raster-byte}
+use Rattle.verdicts.proofs.Records.{same-story}
 use Rattle.page.specs.Sheet.{Sheet, mode-of}
 use Rattle.page.specs.Refusals.{refusal, to-walk}
 use Rattle.page.proofs.Rows.{unless-none, unless-refused, walk-passed}
 use Rattle.page.proofs.Raster.{white-signed, coloured-meets}
-use Rattle.walk.specs.Answers.{verdicts, rastered, recorded}
-use Rattle.walk.specs.Facts.{PrintedByte, PrintedSigned, PrintedMeets, RefusedUnchanged, LaterUnchanged}
+use Rattle.walk.specs.Answers.{verdicts, rastered, recorded, states-listing, enumerated}
+use Rattle.walk.specs.Facts.{PrintedByte, PrintedSigned, PrintedMeets, WrittenRecords, RefusedUnchanged, LaterUnchanged}
 use Rattle.walk.proofs.Whole.{over-length, over-later}
 
 -- ---- the places where nothing is refused
@@ -46,6 +48,14 @@ printed-signed S mode old r now h e p q a b = rw (printed-byte S mode old r now 
 
 pub printed-meets : PrintedMeets
 printed-meets S mode old r now h e p q a b = rw (printed-byte S mode old r now h e p q a b) (coloured-meets S (mode-of mode) p q)
+
+-- ---- the records
+pub written-records : WrittenRecords
+unfolding enumerated
+written-records S mode old r now h e =
+    let v = verdicts S mode in let xs = listing v (S .k) in let depth = walk-passed S mode (length old) e .0 .ranges .depth in
+    let l : states-listing r .length ≡ length xs = ap (λ t. t .length) (h .1 ∙ sym (unless-none _ _ _ e)) in
+    (l, rw (l, h .2 ∙ listing-place S mode old e, take-append-seam xs (drop (length xs) old)) (same-story v (S .k) depth))
 
 -- ---- what stays as it was
 pub refused-unchanged : RefusedUnchanged

@@ -13,13 +13,13 @@ use lib.Pow.{pow-pos}
 use lib.Seq.{getD-append-add, getD-drop, ext-getD, sets, sets-eq}
 use Rattle.algebra.proofs.Choice.{and-both}
 use Rattle.algebra.proofs.Power.{*-pow}
-use Rattle.verdicts.specs.Walking.{Verdicts, colour, raster, listing, visited, coloured}
+use Rattle.verdicts.specs.Walking.{Verdicts, raster, listing, visited, coloured}
 use Rattle.verdicts.specs.Operational.{visited-from, coloured-from, records-from, colour-from}
 use Rattle.verdicts.proofs.Colours.{colour-is}
 use Rattle.verdicts.proofs.Tallies.{visited-is, coloured-is}
 use Rattle.verdicts.proofs.Lengths.{raster-long, listing-long}
 use Rattle.verdicts.proofs.Listing.{listing-is}
-use Rattle.verdicts.proofs.Bytes.{row-below, raster-byte}
+use Rattle.verdicts.proofs.Bytes.{row-below, raster-at}
 use Rattle.walk.specs.declared.Seen.{Seen}
 use Rattle.walk.specs.declared.Entered.{Entered}
 use Rattle.walk.specs.Steps.{in-block, Counted, Examined, Recorded}
@@ -48,18 +48,13 @@ beyond k i l =
     let m : 1 ≤ i / 2 ^ k / 2 ^ k = Nat.le-div-iff-mul-le (pow-pos k) .1 j in
     ap (λ b. eqb (i % 2 ^ k / 2 ^ k) 0 && b) (ne-eqb (i / 2 ^ k / 2 ^ k) 0 (λ e. omega arith)) ∙ and-false (eqb (i % 2 ^ k / 2 ^ k) 0)
 
--- the byte at i is the colour of its finest cell
-byte : (v : Verdicts) (k i : ℕ) → i < 4 ^ k → getD (raster v k) i 0 ≡ colour v k (i % 2 ^ k) (i / 2 ^ k)
-byte v k i l =
-    ap (λ n. getD (raster v k) n 0) (sym (Nat.div-add-mod' i (2 ^ k))) ∙ raster-byte v k (i % 2 ^ k) (i / 2 ^ k) (Nat.mod-lt i (pow-pos k)) (row-below k i l)
-
 pub raster-whole : (v : Verdicts) (k : ℕ) (old now : List ℕ) (r : Seen) → 4 ^ k ≤ length old → Examined v k 0 0 0 old now r → now ≡ raster v k ++ drop (4 ^ k) old
 raster-whole v k old now r room e =
     let p = rw Nat.sub-zero at (e .painted) in let same = p .long in
     ext-getD 0 now (raster v k ++ drop (4 ^ k) old)
     (same ∙ sym (over-length (raster v k) old (raster-long v k) room))
     (λ i l. p .each i (omega arith) ∙ elim (decLt i (4 ^ k)) [
-      | yes h ↦ ap (λ b. cond b (colour-from v 0 k (i % 2 ^ k) (i / 2 ^ k)) (getD old i 0)) (within k i h) ∙ colour-is v k (i % 2 ^ k) (i / 2 ^ k) ∙ sym (byte v k i h)
+      | yes h ↦ ap (λ b. cond b (colour-from v 0 k (i % 2 ^ k) (i / 2 ^ k)) (getD old i 0)) (within k i h) ∙ colour-is v k (i % 2 ^ k) (i / 2 ^ k) ∙ sym (raster-at v k i h)
           ∙ sym (List·getD-append (raster v k) (drop (4 ^ k) old) 0 i (omega (arith, raster-long v k)))
       | no h ↦ ap (λ b. cond b (colour-from v 0 k (i % 2 ^ k) (i / 2 ^ k)) (getD old i 0)) (beyond k i (omega arith))
           ∙ sym (over-later (raster v k) old (raster-long v k) i (omega arith))

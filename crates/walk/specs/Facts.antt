@@ -3,16 +3,17 @@ use mathlib.Core.Path.{_≡_}
 use mathlib.Core.List.{List}
 use Prim.Native.Nat.{ℕ, _+_, _*_, _^_, _≤_, _<_}
 use lib.IntN.{ℤ, pos}
-use lib.ListN.{length, getD}
+use lib.ListN.{length, getD, take}
 use lib.Signed.{_<ℤ_}
-use Rattle.verdicts.specs.Walking.{colour, listing}
+use Rattle.verdicts.specs.Walking.{colour, raster, listing}
+use Rattle.verdicts.specs.Facts.{unfolded}
 use Rattle.page.specs.Sheet.{Sheet}
 use Rattle.page.specs.Scaled.{InCell, value-at, MeetsCurve}
 use Rattle.page.specs.Bounds.{bend}
 use Rattle.page.specs.Refusals.{refusal, to-walk}
 use Rattle.walk.specs.declared.Tallied.{Tallied}
 use Rattle.walk.specs.declared.Listed.{Listed}
-use Rattle.walk.specs.Answers.{verdicts}
+use Rattle.walk.specs.Answers.{verdicts, states-listing}
 use Rattle.walk.specs.Promises.{RasterPromise, ListingPromise}
 
 -- ---- the bytes that `raster` leaves where nothing is refused: the one at q·2^k + p is for the finest cell at column p, row q
@@ -31,6 +32,11 @@ PrintedSigned = (S : Sheet) (mode : ℕ) (old : List ℕ) (r : Tallied) (now : L
 abbrev pub PrintedMeets : Type 0
 PrintedMeets = (S : Sheet) (mode : ℕ) (old : List ℕ) (r : Tallied) (now : List ℕ) → RasterPromise S mode old r now → refusal (to-walk S mode (length old)) ≡ 0 →
     (p q : ℕ) → p < 2 ^ S .k → q < 2 ^ S .k → getD now (q * 2 ^ S .k + p) 0 ≡ 1 → bend S (S .k) p q ≡ 0 → MeetsCurve S (S .k) p q
+
+-- ---- the records that `listing` leaves where nothing is refused: as many as it answers, they unfold to the raster
+abbrev pub WrittenRecords : Type 0
+WrittenRecords = (S : Sheet) (mode : ℕ) (old : List ℕ) (r : Listed) (now : List ℕ) → ListingPromise S mode old r now → refusal (to-walk S mode (length old)) ≡ 0 →
+    (states-listing r .length ≡ length (listing (verdicts S mode) (S .k))) × (unfolded (S .k) (take (states-listing r .length) now) ≡ raster (verdicts S mode) (S .k))
 
 -- ---- what stays as it was, of the place lent to `raster` and of the one lent to `listing`
 -- everything, where the call is refused

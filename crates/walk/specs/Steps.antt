@@ -37,7 +37,7 @@ one-seen colour = record { visited = 1; coloured = cond (eqb colour 1) 1 0 }
 abbrev pub cut-seen : Seen → Seen → Seen → Seen → Seen
 cut-seen a b c d = record { visited = 1 + a .visited + b .visited + c .visited + d .visited; coloured = a .coloured + b .coloured + c .coloured + d .coloured }
 
--- as few as a whole sheet has
+-- at most as many as a whole sheet of depth 7 has
 pub record Few (r : Seen) : Type 0 where
   pub visits : r .visited ≤ 21_845
   pub colours : r .coloured ≤ 16_384

@@ -25,13 +25,13 @@ pub enum Listed {
 }
 
 // What a walk has seen: cells visited, and finest cells coloured.
-pub struct Seen {
+struct Seen {
     pub visited: u32,
     pub coloured: u32,
 }
 
 // Where the records written so far end, and what the walk has seen.
-pub struct Entered {
+struct Entered {
     pub end: usize,
     pub seen: Seen,
 }

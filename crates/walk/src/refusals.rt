@@ -3,7 +3,7 @@ ghost use mathlib.Core.Path.{_≡_};
 ghost use Rattle.page.specs.Sheet.{sheet-of};
 ghost use Rattle.page.specs.Refusals.{refusal, to-walk};
 
-// The first of 1 to 7 that holds, or 0. That 9 never holds is proved, so nothing is counted for it.
+// The first of 1 to 7 that holds, or 0. Where these do not hold 9 does not either, which is proved, so nothing is counted for it.
 pub fn walk_refusal(
     d: u32,
     coefficients: &[i32],

@@ -1,6 +1,7 @@
 -- `sheet::bounds` meets its contract.
 use mathlib.Core.Path.{_≡_, sym, _∙_, ap}
 use Prim.Native.Nat.{_≤_}
+use native.Mathlib.Omega.{arith}
 use borrow.Author.Needs.{needs}
 use mir.Facts.{toZ-ofZ}
 use Rattle.page.specs.Sheet.{Sheet, sheet-of, mode-of}
@@ -51,7 +52,9 @@ ground-of-requires : tie.Need-ground-of-requires
 ground-of-requires c κs = let s = c .before .before in rw (toZ-ofZ (s .fits .x), toZ-ofZ (s .fits .y)) (passed c .0)
 
 cell-range-requires : tie.Need-cell-range-requires
-cell-range-requires c κs = let h = passed (c .before) in let g = ground-is c in (firm (h .0) (h .1) g, rw (g .depth) (h .2))
+cell-range-requires c κs =
+    let h = passed (c .before) in let g = ground-is c in let i = h .2 in
+    (firm (h .0) (h .1) g, rw (g .depth) (record { level = i .level; column = omega (arith, i .column, i .row); row = omega (arith, i .column, i .row) }))
 
 returns-2 : tie.Need-returns-2
 unfolding bounded

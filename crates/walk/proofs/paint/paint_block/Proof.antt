@@ -1,25 +1,17 @@
--- `walk::paint::paint_block` meets its contract. The loop's invariant: the first `row` rows of the block are painted.
+-- `walk::paint::paint_block` meets its contract.
 use borrow.Author.Needs.{needs}
-use mathlib.Core.Path.{_≡_, refl, _∙_}
-use mathlib.Core.Bool.{cond}
-use Prim.Native.Nat.{ℕ, _+_, _*_, _-_, _^_, _≤_, _<_}
+use mathlib.Core.Path.{_≡_}
+use Prim.Native.Nat.{ℕ, _+_, _*_, _-_, _^_, _≤_}
 use native.Mathlib.Omega.{arith}
-use lib.ListN.{length, getD}
+use lib.ListN.{length}
 use lib.Pow.{pow-mono}
 use Rattle.algebra.proofs.Power.{*-pow}
-use Rattle.walk.proofs.Blocks.{room, rows, block-none, block-more, block-all, rows-end}
+use Rattle.walk.proofs.Blocks.{columns-end, rows-end, Filling, filling-start, filling-next, filling-end}
 use Rattle.walk.proofs.paint.paint_block.Statement.{statement}
 use Rattle.walk.proofs.paint.paint_block.Tie as tie
-use Rattle.walk.proofs.paint.paint_block.Reads as reads
-use Rattle.walk.proofs.paint.paint_block.Lts as lts
-use Rattle.walk.proofs.paint.paint_run.Reads as paint-run-reads
-use Rattle.walk.proofs.paint.side.Reads as power-reads
 
 abbrev Inv-loop : tie.InvT-loop
-Inv-loop place₀ k level p q colour stride count x y row₀ place row =
-    (length place ≡ length place₀)
-    × (row ≤ count)
-    × ((i : ℕ) → i < length place₀ → getD place i 0 ≡ cond (rows k (k - level) p q (q * 2 ^ (k - level) + row) i) colour (getD place₀ i 0))
+Inv-loop place₀ k level p q colour stride count x y row₀ place row = Filling k (k - level) p q colour place₀ place row
 
 abbrev μ-loop : tie.MeasureT-loop
 μ-loop place₀ k level p q colour stride count x y row₀ place row = count - row
@@ -44,8 +36,8 @@ sides c =
     record {
       stride-is = es;
       side-is = ed;
-      columns = rw (ed, es) (room (a .k) (a .level) (a .p) (pre .1 .level) (pre .1 .column));
-      rows-in = rw (ed, es) (room (a .k) (a .level) (a .q) (pre .1 .level) (pre .1 .row));
+      columns = rw (ed, es) (columns-end (a .k) (a .level) (a .p) (pre .1 .level) (pre .1 .column));
+      rows-in = rw (ed, es) (columns-end (a .k) (a .level) (a .q) (pre .1 .level) (pre .1 .row));
       small = rw es (pow-mono (pre .0));
       whole = rw es (rw (*-pow 2 2 (a .k)) at (pre .2));
     }
@@ -74,7 +66,7 @@ mul-y : tie.Need-mul-y Inv-loop μ-loop
 mul-y c = let s = sides c in omega arith
 
 loop-holds : tie.Need-loop-holds Inv-loop μ-loop
-loop-holds c = (refl, omega arith, λ i l. block-none _ _ _ _ _ _ i)
+loop-holds c = filling-start
 
 add-paint-run : tie.Need-add-paint-run Inv-loop μ-loop
 add-paint-run c = let s = sides (c .before .before .before) in omega arith
@@ -96,30 +88,14 @@ loop-less c = omega arith
 
 loop-again : tie.Need-loop-again Inv-loop μ-loop
 loop-again c =
-    let at-loop = c .before .before .before .before .before in
-    let a = at-loop .before .before .before .before .args in
-    let s = sides (at-loop .before) in
-    let run = c .before .before .paint-run in
-    let more : at-loop .loop .row < 2 ^ (a .k - a .level) = rw (s .side-is) at (c .before .before .before .before .loop-test .taken) in
-    let wide : a .p * 2 ^ (a .k - a .level) + 2 ^ (a .k - a .level) ≤ 2 ^ (a .k) = room (a .k) (a .level) (a .p) (omega arith) (at-loop .before .before .before .before .pre .1 .column) in (
-      run .ensures .long ∙ at-loop .loop .inv .0,
-      omega arith,
-      λ i l. block-more (a .k) (a .k - a .level) (a .p) (a .q) (a .colour) (getD (a .place .now) i 0) (getD (at-loop .loop .place) i 0) _ (at-loop .loop .row) i _ _ (s .stride-is) (s .side-is) more wide (at-loop .loop .inv .2 i l) (run .ensures .each i (omega arith)),
-    )
+    let at-loop = c .before .before .before .before .before in let s = sides (at-loop .before) in
+    filling-next (rw (s .side-is, s .stride-is) at (s .columns)) (rw (s .side-is) at (c .before .before .before .before .loop-test .taken)) (rw (s .side-is, s .stride-is) at (c .before .before .paint-run .ensures)) (at-loop .loop .inv)
 
 same-length : tie.Need-same-length Inv-loop μ-loop
 same-length c = omega arith
 
 returns : tie.Need-returns Inv-loop μ-loop
-returns c =
-    let at-loop = c .before in
-    let a = at-loop .before .before .before .before .args in
-    let s = sides (at-loop .before) in
-    let past : at-loop .loop .row ≡ 2 ^ (a .k - a .level) = omega arith in
-    record {
-      long = at-loop .loop .inv .0;
-      each = λ i l. block-all (a .k) (a .k - a .level) (a .p) (a .q) (a .colour) _ _ i (rw past at (at-loop .loop .inv .2 i l));
-    }
+returns c = let s = sides (c .before .before) in filling-end (omega arith) (c .before .loop .inv)
 
 pub paint-block-spec : {M : Type 1} → statement M
 paint-block-spec =

@@ -1,4 +1,4 @@
--- `walk::refusals::walk_refusal` meets its contract: the rows 1 to 6, row 7, and row 9, which never holds.
+-- `walk::refusals::walk_refusal` meets its contract: the rows 1 to 6, row 7, and row 9, which does not hold after them.
 use mathlib.Core.Path.{_≡_, sym, _∙_, ap}
 use mathlib.Core.Bool.{cond}
 use Prim.Native.Nat.{_*_, _%_, _^_, _≤_}
