@@ -8,7 +8,7 @@ use native.Mathlib.Omega.{arith}
 use lib.IntN.{ℤ, pos, _+ℤ_, _*ℤ_, natAbs, pow, zero-*ℤ, *ℤ-comm, +ℤ-idr}
 use Rattle.algebra.specs.Sum.{sum, sumℕ, run, _⋯_}
 use Rattle.algebra.specs.Binomial.{choose, entry}
-use Rattle.algebra.proofs.Integer.{≡-by, *ℤ-idl, *ℤ-idr, +ℤ-*ℤ, *ℤ-+ℤ, *ℤ-assoc, *ℤ-left-comm}
+use Rattle.algebra.proofs.Integer.{≡-by, *ℤ-idl, +ℤ-*ℤ, *ℤ-+ℤ, *ℤ-assoc, *ℤ-left-comm}
 use Rattle.algebra.proofs.Power.{pow-zero, pow-suc, pos-pow}
 use Rattle.algebra.proofs.Absolute.{natAbs-*ℤ, natAbs-pow}
 use Rattle.algebra.proofs.Ring.{ring, _⊕_, _⊖_, _⊗_, _≐_}
@@ -108,9 +108,6 @@ module _ (u h : ℤ) where
 
   pub entry-over : (n k : ℕ) → n < k → entry u h n k ≡ pos 0
   entry-over n k l = rw (entry-shift, shift-over u n k l) (zero-*ℤ (pow h k))
-
-  pub entry-zero : (n : ℕ) → entry u h n 0 ≡ pow u n
-  entry-zero n = simp (entry-shift, shift-zero, pow-zero, *ℤ-idr)
 
   -- row by row, by Pascal's rule
   pub entry-first : entry u h 0 0 ≡ pos 1

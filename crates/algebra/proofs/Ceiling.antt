@@ -1,6 +1,6 @@
 -- Arithmetic with a ceiling C: min n C is n, or C where n is C or more. Sums and products under the ceiling come from those of their parts under it.
 use mathlib.Core.Path.{_≡_, _∙_, ap}
-use Prim.Native.Nat.{ℕ, zero, suc, _+_, _*_, _≤_, _<_, min}
+use Prim.Native.Nat.{ℕ, zero, suc, _+_, _*_, _≤_, min}
 use native.Mathlib.Nat as Nat
 use native.Mathlib.Decide.{decLe}
 use native.Mathlib.Omega.{arith}
@@ -24,13 +24,6 @@ module _ (C : ℕ) where
   pub ceil-* : (a b : ℕ) → min (min a C * min b C) C ≡ min (a * b) C
   ceil-* a b = one-factor a (min b C) ∙ ap (λ x. min x C) (Nat.mul-comm a (min b C)) ∙ one-factor b a ∙ ap (λ x. min x C) (Nat.mul-comm b a)
 
-  -- below the ceiling it is the number itself
-  pub min-below : (n : ℕ) → min n C < C → min n C ≡ n
-  min-below n h = omega arith
-
   -- the ceiling is met by the numbers from C on
   pub min-met : (n : ℕ) → min n C ≡ C → C ≤ n
   min-met n h = omega arith
-
-  pub met-min : (n : ℕ) → C ≤ n → min n C ≡ C
-  met-min n h = omega arith

@@ -11,7 +11,7 @@ use Rattle.algebra.specs.Horner.{shifted, load}
 use Rattle.algebra.proofs.Absolute.{natAbs-*ℤ}
 use Rattle.algebra.proofs.Ring.{ring, _⊕_, _⊗_, _≐_}
 use Rattle.algebra.proofs.Sum.{sum-cong, sum-+, sum-*ℤ, sumℕ-cong, sumℕ-mono, *-sumℕ, natAbs-sum-le}
-use Rattle.algebra.proofs.Run.{span-member, sum-span-none, sum-span-first, sum-span-zero, sumℕ-span-none, sumℕ-span-first, sumℕ-span-part}
+use Rattle.algebra.proofs.Run.{span-member, sum-span-none, sum-span-first, sum-span-zero, sumℕ-span-first, sumℕ-span-part}
 use Rattle.algebra.proofs.Binomial.{entry-over, entry-first, entry-suc-zero, entry-suc, entry-size}
 
 -- ---- the coefficients
@@ -60,11 +60,7 @@ module _ (c : ℕ → ℤ) (u h : ℤ) (m : ℕ) where
 
 -- ---- the loads
 module _ (c : ℕ → ℤ) (b m : ℕ) where
-  -- nothing above the top, and one step down: times b, plus |c(j)|
-  pub load-none : (j : ℕ) → m < j → load c b m j ≡ 0
-  unfolding load
-  load-none j l = sumℕ-span-none j (suc m) _ l
-
+  -- one step down: times b, plus |c(j)|
   pub load-next : (j : ℕ) → j ≤ m → load c b m j ≡ load c b m (suc j) * b + natAbs (c j)
   unfolding load
   load-next j l =

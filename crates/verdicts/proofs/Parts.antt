@@ -1,6 +1,6 @@
 -- The four parts of a cell: their columns and rows, sums over them, and lists joined from theirs.
 use mathlib.Core.Path.{_≡_, _∙_, ap}
-use mathlib.Core.Bool.{Bool, true, false}
+use mathlib.Core.Bool.{Bool, true, false, _||_}
 use mathlib.Core.List.{List, map, map-append, List·Memᴰ}
 use Prim.Native.Nat.{ℕ, suc, _+_, _*_, _/_, _^_, _≤_}
 use native.Mathlib.Numerals.{add-one}
@@ -15,14 +15,14 @@ use Rattle.verdicts.specs.Operational.{four}
 use Rattle.verdicts.proofs.Lists.{++-member, those-++}
 
 -- a property of each of the four
-pub record Parts (P : ℕ → ℕ → Type 0) (p q : ℕ) : Type 0 where
-  pub lower-left : P (2 * p) (2 * q)
-  pub lower-right : P (2 * p + 1) (2 * q)
-  pub upper-left : P (2 * p) (2 * q + 1)
-  pub upper-right : P (2 * p + 1) (2 * q + 1)
+record Parts (P : ℕ → ℕ → Type 0) (p q : ℕ) : Type 0 where
+  lower-left : P (2 * p) (2 * q)
+  lower-right : P (2 * p + 1) (2 * q)
+  upper-left : P (2 * p) (2 * q + 1)
+  upper-right : P (2 * p + 1) (2 * q + 1)
 
 -- of each part the cell is the half, in column and row
-pub parts : (P : ℕ → ℕ → Type 0) (p q : ℕ) → ((a b : ℕ) → a / 2 ≡ p → b / 2 ≡ q → P a b) → Parts P p q
+parts : (P : ℕ → ℕ → Type 0) (p q : ℕ) → ((a b : ℕ) → a / 2 ≡ p → b / 2 ≡ q → P a b) → Parts P p q
 parts P p q h = record {
   lower-left = h (2 * p) (2 * q) (omega arith) (omega arith);
   lower-right = h (2 * p + 1) (2 * q) (omega arith) (omega arith);
@@ -49,6 +49,17 @@ halves u a = elim (ℕ-discrete u (2 * a)) [
     | no m ↦ neither (ne-eqb u (2 * a) n) (ne-eqb u (2 * a + 1) m) (ne-eqb (u / 2) a (λ e. omega arith))
   ]
 ]
+
+-- so one of two parts lies over a column exactly where the cell does
+half-test : (u p : ℕ) → (eqb u (2 * p) || eqb u (2 * p + 1)) ≡ eqb (u / 2) p
+half-test u p = elim (halves u p) [
+  | even x y z ↦ simp (x, y, z)
+  | odd x y z ↦ simp (x, y, z)
+  | neither x y z ↦ simp (x, y, z)
+]
+
+pub quarter-test : (x n p : ℕ) → (eqb (x / 2 ^ n) (2 * p) || eqb (x / 2 ^ n) (2 * p + 1)) ≡ eqb (x / 2 ^ suc n) p
+quarter-test x n p = half-test (x / 2 ^ n) p ∙ ap (λ m. eqb m p) (half-of x n)
 
 -- ---- the sum over the four
 pub four-cong : (f g : ℕ → ℕ → ℕ) (p q : ℕ) → ((a b : ℕ) → a / 2 ≡ p → b / 2 ≡ q → f a b ≡ g a b) → four f p q ≡ four g p q

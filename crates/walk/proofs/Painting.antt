@@ -10,7 +10,7 @@ use Rattle.algebra.proofs.Choice.{cond-when}
 use Rattle.verdicts.specs.Walking.{Verdicts}
 use Rattle.verdicts.specs.Operational.{colour-from}
 use Rattle.verdicts.proofs.Cells.{Opened, levels-below, colour-open}
-use Rattle.verdicts.proofs.Parts.{half-of, even, odd, neither, halves}
+use Rattle.verdicts.proofs.Parts.{quarter-test}
 use Rattle.walk.specs.declared.Seen.{Seen}
 use Rattle.walk.specs.Steps.{Painted, in-block, Block, one-seen, cut-seen, Examined}
 use Rattle.walk.proofs.Picks.{pick-four}
@@ -23,17 +23,6 @@ repaint has n m old new e p =
     record { long = p .long; each = λ i l. p .each i l ∙ cond-when (has i) (getD old i 0) (e i) }
 
 -- the four quarters of a cell are the cell
-half-test : (u p : ℕ) → (eqb u (2 * p) || eqb u (2 * p + 1)) ≡ eqb (u / 2) p
-half-test u p = elim (halves u p) [
-  | even x y z ↦ simp (x, y, z)
-  | odd x y z ↦ simp (x, y, z)
-  | neither x y z ↦ simp (x, y, z)
-]
-
-quarter-test : (x d p : ℕ) → (eqb (x / 2 ^ d) (2 * p) || eqb (x / 2 ^ d) (2 * p + 1)) ≡ eqb (x / 2 ^ suc d) p
-quarter-test x d p =
-    half-test (x / 2 ^ d) p ∙ ap (λ n. eqb n p) (half-of x d)
-
 painted-four : (k d p q : ℕ) (new : ℕ → ℕ) (l₀ l₁ l₂ l₃ l₄ : List ℕ) → Painted (in-block k d (2 * p) (2 * q)) new l₀ l₁ → Painted (in-block k d (2 * p + 1) (2 * q)) new l₁ l₂ → Painted (in-block k d (2 * p) (2 * q + 1)) new l₂ l₃ → Painted (in-block k d (2 * p + 1) (2 * q + 1)) new l₃ l₄ → Painted (in-block k (suc d) p q) new l₀ l₄
 painted-four k d p q new l₀ l₁ l₂ l₃ l₄ a b c e =
     let e₁ = a .long in
