@@ -7,3 +7,4 @@ pub mod Raster
 pub mod Facts
 pub mod Edges
 pub mod Samples
+pub mod TextSamples

@@ -6,6 +6,8 @@ pub mod LocalForm
 pub mod Bounds
 pub mod Weight
 pub mod Refusals
+pub mod SheetText
+pub mod ListingText
 pub mod Facts
 pub mod Demand3
 pub mod Raster

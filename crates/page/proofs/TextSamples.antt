@@ -1,0 +1,85 @@
+-- Texts read and written by the definitions, computed: the page's whole case, and what is good and what is bad in a line.
+use mathlib.Core.Path.{_≡_, refl}
+use mathlib.Core.Bool.{Bool, true, false}
+use mathlib.Core.List.{List, [], _∷_, flatMap}
+use Prim.Native.Nat.{ℕ}
+use lib.IntN.{pos, negsuc, pow, one}
+use Rattle.algebra.specs.Sum.{sum, sumℕ, run, span, _⋯_}
+use Rattle.algebra.specs.Binomial.{choose}
+use Rattle.algebra.specs.MinMax.{minℤ, maxℤ}
+use Rattle.algebra.specs.Triangle.{row-start}
+use Rattle.local.specs.Range.{judged}
+use Rattle.verdicts.specs.Walking.{those, walking-order, colour, visited, coloured}
+use Rattle.page.specs.LocalForm.{G}
+use Rattle.page.specs.Bounds.{lower, upper}
+use Rattle.page.specs.Weight.{weight}
+use Rattle.page.specs.Refusals.{table, first}
+use Rattle.page.specs.SheetText.{lines, fields, all-digits, amount, signed, unsigned, Numbers, bad, good, numbers, Text, bad-line, terms-from, text-of, coefficients-of, Outcome, refused, outcome}
+use Rattle.page.specs.ListingText.{digits-within, decimal, record-line, total-line, refused-line, listing-text, written-text}
+
+-- ---- the whole case
+abbrev whole-in : List ℕ
+whole-in =
+    68 ∷ 9 ∷ 49 ∷ 10 ∷ 66 ∷ 9 ∷ 48 ∷ 9 ∷ 48 ∷ 9 ∷ 48 ∷ 10 ∷ 75 ∷ 9 ∷ 49 ∷ 10 ∷ 77 ∷ 9 ∷ 48 ∷ 10 ∷ 84 ∷ 9 ∷ 48 ∷ 9 ∷ 49 ∷ 9 ∷ 45 ∷ 49 ∷ 10 ∷ 84 ∷ 9 ∷ 49 ∷ 9 ∷ 48 ∷ 9 ∷ 49 ∷ 10 ∷ []
+
+abbrev whole-out : List ℕ
+whole-out =
+    49 ∷ 9 ∷ 48 ∷ 9 ∷ 48 ∷ 9 ∷ 48 ∷ 10 ∷ 49 ∷ 9 ∷ 49 ∷ 9 ∷ 48 ∷ 9 ∷ 48 ∷ 10 ∷ 49 ∷ 9 ∷ 48 ∷ 9 ∷ 49 ∷ 9 ∷ 48 ∷ 10 ∷ 49 ∷ 9 ∷ 49 ∷ 9 ∷ 49 ∷ 9 ∷ 48 ∷ 10 ∷ 116 ∷ 111 ∷ 116 ∷ 97 ∷ 108 ∷ 9 ∷ 53 ∷ 9 ∷ 52 ∷ 10 ∷ []
+
+whole-case : written-text whole-in ≡ whole-out
+unfolding pow one sum sumℕ run span _⋯_ choose minℤ maxℤ row-start judged G lower upper those walking-order colour visited coloured weight table first lines fields all-digits amount terms-from text-of coefficients-of flatMap outcome digits-within decimal record-line total-line listing-text written-text
+whole-case = refl
+
+-- ---- refusals with their lines
+
+refusals :
+    (outcome ([]) ≡ refused 10 1)
+    × (outcome (68 ∷ 9 ∷ 49 ∷ []) ≡ refused 10 1)
+    × (outcome (68 ∷ 9 ∷ 49 ∷ 10 ∷ []) ≡ refused 10 2)
+    × (outcome (68 ∷ 9 ∷ 49 ∷ 10 ∷ 75 ∷ 9 ∷ 49 ∷ 10 ∷ 66 ∷ 9 ∷ 48 ∷ 9 ∷ 48 ∷ 9 ∷ 48 ∷ 10 ∷ []) ≡ refused 10 2)
+    × (outcome (68 ∷ 9 ∷ 49 ∷ 10 ∷ 66 ∷ 9 ∷ 48 ∷ 9 ∷ 48 ∷ 9 ∷ 48 ∷ 10 ∷ 75 ∷ 9 ∷ 49 ∷ 10 ∷ 77 ∷ 9 ∷ 48 ∷ 10 ∷ 84 ∷ 9 ∷ 48 ∷ 9 ∷ 49 ∷ 9 ∷ 53 ∷ 10 ∷ 84 ∷ 9 ∷ 48 ∷ 9 ∷ 49 ∷ 9 ∷ 53 ∷ 10 ∷ []) ≡ refused 10 6)
+    × (outcome (68 ∷ 9 ∷ 49 ∷ 10 ∷ 66 ∷ 9 ∷ 48 ∷ 9 ∷ 48 ∷ 9 ∷ 48 ∷ 10 ∷ 75 ∷ 9 ∷ 49 ∷ 10 ∷ 77 ∷ 9 ∷ 48 ∷ 10 ∷ 84 ∷ 9 ∷ 49 ∷ 9 ∷ 49 ∷ 9 ∷ 53 ∷ 10 ∷ []) ≡ refused 10 5)
+    × (outcome (68 ∷ 9 ∷ 57 ∷ 10 ∷ 66 ∷ 9 ∷ 48 ∷ 9 ∷ 48 ∷ 9 ∷ 48 ∷ 10 ∷ 75 ∷ 9 ∷ 49 ∷ 10 ∷ 77 ∷ 9 ∷ 48 ∷ 10 ∷ 84 ∷ 9 ∷ 57 ∷ 9 ∷ 48 ∷ 9 ∷ 53 ∷ 10 ∷ []) ≡ refused 10 5)
+    × (outcome (68 ∷ 9 ∷ 57 ∷ 10 ∷ 66 ∷ 9 ∷ 48 ∷ 9 ∷ 48 ∷ 9 ∷ 48 ∷ 10 ∷ 75 ∷ 9 ∷ 49 ∷ 10 ∷ 77 ∷ 9 ∷ 48 ∷ 10 ∷ 84 ∷ 9 ∷ 56 ∷ 9 ∷ 49 ∷ 9 ∷ 53 ∷ 10 ∷ []) ≡ refused 1 0)
+    × (outcome (68 ∷ 9 ∷ 50 ∷ 49 ∷ 52 ∷ 55 ∷ 52 ∷ 56 ∷ 51 ∷ 54 ∷ 52 ∷ 55 ∷ 10 ∷ 66 ∷ 9 ∷ 48 ∷ 9 ∷ 48 ∷ 9 ∷ 48 ∷ 10 ∷ 75 ∷ 9 ∷ 49 ∷ 10 ∷ 77 ∷ 9 ∷ 48 ∷ 10 ∷ 84 ∷ 9 ∷ 56 ∷ 9 ∷ 56 ∷ 9 ∷ 53 ∷ 10 ∷ []) ≡ refused 1 0)
+    × (outcome (68 ∷ 9 ∷ 50 ∷ 49 ∷ 52 ∷ 55 ∷ 52 ∷ 56 ∷ 51 ∷ 54 ∷ 52 ∷ 56 ∷ 10 ∷ 66 ∷ 9 ∷ 48 ∷ 9 ∷ 48 ∷ 9 ∷ 48 ∷ 10 ∷ 75 ∷ 9 ∷ 49 ∷ 10 ∷ 77 ∷ 9 ∷ 48 ∷ 10 ∷ []) ≡ refused 10 1)
+    × (outcome (68 ∷ 9 ∷ 49 ∷ 10 ∷ 66 ∷ 9 ∷ 48 ∷ 9 ∷ 48 ∷ 9 ∷ 48 ∷ 10 ∷ 75 ∷ 9 ∷ 49 ∷ 10 ∷ 77 ∷ 9 ∷ 48 ∷ 10 ∷ 10 ∷ []) ≡ refused 10 5)
+    × (outcome (68 ∷ 9 ∷ 49 ∷ 10 ∷ 66 ∷ 9 ∷ 48 ∷ 9 ∷ 48 ∷ 9 ∷ 48 ∷ 10 ∷ 75 ∷ 9 ∷ 56 ∷ 10 ∷ 77 ∷ 9 ∷ 50 ∷ 10 ∷ []) ≡ refused 3 0)
+    × (outcome (68 ∷ 9 ∷ 49 ∷ 10 ∷ 66 ∷ 9 ∷ 48 ∷ 9 ∷ 45 ∷ 49 ∷ 48 ∷ 52 ∷ 56 ∷ 53 ∷ 55 ∷ 55 ∷ 9 ∷ 48 ∷ 10 ∷ 75 ∷ 9 ∷ 55 ∷ 10 ∷ 77 ∷ 9 ∷ 50 ∷ 10 ∷ []) ≡ refused 4 0)
+    × (outcome (68 ∷ 9 ∷ 49 ∷ 10 ∷ 66 ∷ 9 ∷ 48 ∷ 9 ∷ 48 ∷ 9 ∷ 49 ∷ 49 ∷ 10 ∷ 75 ∷ 9 ∷ 55 ∷ 10 ∷ 77 ∷ 9 ∷ 50 ∷ 10 ∷ []) ≡ refused 4 0)
+    × (outcome (68 ∷ 9 ∷ 49 ∷ 10 ∷ 66 ∷ 9 ∷ 48 ∷ 9 ∷ 48 ∷ 9 ∷ 48 ∷ 10 ∷ 75 ∷ 9 ∷ 55 ∷ 10 ∷ 77 ∷ 9 ∷ 50 ∷ 10 ∷ []) ≡ refused 5 0)
+    × (outcome (68 ∷ 9 ∷ 56 ∷ 10 ∷ 66 ∷ 9 ∷ 48 ∷ 9 ∷ 48 ∷ 9 ∷ 48 ∷ 10 ∷ 75 ∷ 9 ∷ 55 ∷ 10 ∷ 77 ∷ 9 ∷ 49 ∷ 10 ∷ 84 ∷ 9 ∷ 48 ∷ 9 ∷ 48 ∷ 9 ∷ 49 ∷ 10 ∷ []) ≡ refused 6 0)
+unfolding sumℕ run span _⋯_ row-start weight table first lines fields all-digits amount terms-from text-of coefficients-of flatMap outcome
+refusals = (refl, refl, refl, refl, refl, refl, refl, refl, refl, refl, refl, refl, refl, refl, refl, refl)
+
+-- ---- numbers that may be negative: good ones and bad ones
+numbers-good :
+    (numbers (signed ∷ []) ((48 ∷ []) ∷ []) ≡ good (pos 0 ∷ []))
+    × (numbers (signed ∷ []) ((45 ∷ 49 ∷ []) ∷ []) ≡ good (negsuc 0 ∷ []))
+    × (numbers (signed ∷ []) ((50 ∷ 49 ∷ 52 ∷ 55 ∷ 52 ∷ 56 ∷ 51 ∷ 54 ∷ 52 ∷ 55 ∷ []) ∷ []) ≡ good (pos 2_147_483_647 ∷ []))
+    × (numbers (signed ∷ []) ((45 ∷ 50 ∷ 49 ∷ 52 ∷ 55 ∷ 52 ∷ 56 ∷ 51 ∷ 54 ∷ 52 ∷ 56 ∷ []) ∷ []) ≡ good (negsuc 2_147_483_647 ∷ []))
+    × (numbers (signed ∷ []) ((49 ∷ 48 ∷ []) ∷ []) ≡ good (pos 10 ∷ []))
+unfolding all-digits amount
+numbers-good = (refl, refl, refl, refl, refl)
+
+numbers-bad :
+    (numbers (signed ∷ []) ((48 ∷ 48 ∷ []) ∷ []) ≡ bad)
+    × (numbers (signed ∷ []) ((45 ∷ 48 ∷ []) ∷ []) ≡ bad)
+    × (numbers (signed ∷ []) ((45 ∷ 48 ∷ 49 ∷ []) ∷ []) ≡ bad)
+    × (numbers (signed ∷ []) ((48 ∷ 49 ∷ []) ∷ []) ≡ bad)
+    × (numbers (signed ∷ []) ((45 ∷ []) ∷ []) ≡ bad)
+    × (numbers (signed ∷ []) ((43 ∷ 49 ∷ []) ∷ []) ≡ bad)
+    × (numbers (signed ∷ []) (([]) ∷ []) ≡ bad)
+    × (numbers (signed ∷ []) ((32 ∷ 49 ∷ []) ∷ []) ≡ bad)
+    × (numbers (signed ∷ []) ((49 ∷ 13 ∷ []) ∷ []) ≡ bad)
+    × (numbers (signed ∷ []) ((49 ∷ 97 ∷ []) ∷ []) ≡ bad)
+    × (numbers (signed ∷ []) ((45 ∷ 50 ∷ 49 ∷ 52 ∷ 55 ∷ 52 ∷ 56 ∷ 51 ∷ 54 ∷ 52 ∷ 57 ∷ []) ∷ []) ≡ bad)
+    × (numbers (signed ∷ []) ((50 ∷ 49 ∷ 52 ∷ 55 ∷ 52 ∷ 56 ∷ 51 ∷ 54 ∷ 52 ∷ 56 ∷ []) ∷ []) ≡ bad)
+    × (numbers (signed ∷ []) ((178 ∷ []) ∷ []) ≡ bad)
+unfolding all-digits amount
+numbers-bad = (refl, refl, refl, refl, refl, refl, refl, refl, refl, refl, refl, refl, refl)
+
+-- where it may not be negative; a number too many, and one too few
+numbers-counted : (numbers (unsigned ∷ []) ((45 ∷ 49 ∷ []) ∷ []) ≡ bad) × (numbers (unsigned ∷ []) ((49 ∷ []) ∷ [] ∷ []) ≡ bad) × (numbers (unsigned ∷ []) [] ≡ bad)
+unfolding all-digits amount
+numbers-counted = (refl, refl, refl)
