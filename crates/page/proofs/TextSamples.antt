@@ -14,7 +14,7 @@ use Rattle.page.specs.LocalForm.{G}
 use Rattle.page.specs.Bounds.{lower, upper}
 use Rattle.page.specs.Weight.{weight}
 use Rattle.page.specs.Refusals.{table, first}
-use Rattle.page.specs.SheetText.{lines, fields, all-digits, amount, signed, unsigned, Numbers, bad, good, numbers, Text, bad-line, terms-from, text-of, coefficients-of, Outcome, refused, outcome}
+use Rattle.page.specs.SheetText.{lines, fields, all-digits, amount, signed, unsigned, Numbers, bad, good, numbers, Text, bad-line, terms-from, text-of, in-order, Outcome, refused, outcome}
 use Rattle.page.specs.ListingText.{digits-within, decimal, record-line, total-line, refused-line, listing-text, written-text}
 
 -- ---- the whole case
@@ -27,7 +27,7 @@ whole-out =
     49 ∷ 9 ∷ 48 ∷ 9 ∷ 48 ∷ 9 ∷ 48 ∷ 10 ∷ 49 ∷ 9 ∷ 49 ∷ 9 ∷ 48 ∷ 9 ∷ 48 ∷ 10 ∷ 49 ∷ 9 ∷ 48 ∷ 9 ∷ 49 ∷ 9 ∷ 48 ∷ 10 ∷ 49 ∷ 9 ∷ 49 ∷ 9 ∷ 49 ∷ 9 ∷ 48 ∷ 10 ∷ 116 ∷ 111 ∷ 116 ∷ 97 ∷ 108 ∷ 9 ∷ 53 ∷ 9 ∷ 52 ∷ 10 ∷ []
 
 whole-case : written-text whole-in ≡ whole-out
-unfolding pow one sum sumℕ run span _⋯_ choose minℤ maxℤ row-start judged G lower upper those walking-order colour visited coloured weight table first lines fields all-digits amount terms-from text-of coefficients-of flatMap outcome digits-within decimal record-line total-line listing-text written-text
+unfolding pow one sum sumℕ run span _⋯_ choose minℤ maxℤ row-start judged G lower upper those walking-order colour visited coloured weight table first lines fields all-digits amount terms-from text-of in-order flatMap outcome digits-within decimal record-line total-line listing-text written-text
 whole-case = refl
 
 -- ---- refusals with their lines
@@ -49,7 +49,7 @@ refusals :
     × (outcome (68 ∷ 9 ∷ 49 ∷ 10 ∷ 66 ∷ 9 ∷ 48 ∷ 9 ∷ 48 ∷ 9 ∷ 49 ∷ 49 ∷ 10 ∷ 75 ∷ 9 ∷ 55 ∷ 10 ∷ 77 ∷ 9 ∷ 50 ∷ 10 ∷ []) ≡ refused 4 0)
     × (outcome (68 ∷ 9 ∷ 49 ∷ 10 ∷ 66 ∷ 9 ∷ 48 ∷ 9 ∷ 48 ∷ 9 ∷ 48 ∷ 10 ∷ 75 ∷ 9 ∷ 55 ∷ 10 ∷ 77 ∷ 9 ∷ 50 ∷ 10 ∷ []) ≡ refused 5 0)
     × (outcome (68 ∷ 9 ∷ 56 ∷ 10 ∷ 66 ∷ 9 ∷ 48 ∷ 9 ∷ 48 ∷ 9 ∷ 48 ∷ 10 ∷ 75 ∷ 9 ∷ 55 ∷ 10 ∷ 77 ∷ 9 ∷ 49 ∷ 10 ∷ 84 ∷ 9 ∷ 48 ∷ 9 ∷ 48 ∷ 9 ∷ 49 ∷ 10 ∷ []) ≡ refused 6 0)
-unfolding sumℕ run span _⋯_ row-start weight table first lines fields all-digits amount terms-from text-of coefficients-of flatMap outcome
+unfolding sumℕ run span _⋯_ row-start weight table first lines fields all-digits amount terms-from text-of in-order flatMap outcome
 refusals = (refl, refl, refl, refl, refl, refl, refl, refl, refl, refl, refl, refl, refl, refl, refl, refl)
 
 -- ---- numbers that may be negative: good ones and bad ones

@@ -174,11 +174,14 @@ line-then n letter ns (l ∷ ls) rest = with-line n (line-numbers letter ns l) (
 abbrev pub term-numbers : Line → Numbers
 term-numbers l = line-numbers 84 (unsigned ∷ unsigned ∷ signed ∷ []) l
 
+abbrev pub with-terms : Said → List Term → Said
+with-terms w ts = record { d = w .d; X = w .X; Y = w .Y; s = w .s; k = w .k; mode = w .mode; terms = ts }
+
 -- zero or more terms from the n-th line on, in any order, after those of w
 unfoldable pub terms-from : ℕ → Said → List Line → Text
 terms-from n w [] = well-formed w
 terms-from n w (l ∷ ls) = with-line n (term-numbers l) (λ zs.
-    cond (is-new (w .d) (w .terms) (term-of zs)) (terms-from (n + 1) (record { d = w .d; X = w .X; Y = w .Y; s = w .s; k = w .k; mode = w .mode; terms = term-of zs ∷ w .terms }) ls) (bad-line n))
+    cond (is-new (w .d) (w .terms) (term-of zs)) (terms-from (n + 1) (with-terms w (term-of zs ∷ w .terms)) ls) (bad-line n))
 
 -- lines in order: `D` d; `B` X Y s; `K` k; `M` mode; then zero or more terms
 unfoldable pub text-of : List Line → Text
@@ -190,11 +193,11 @@ text-of ls =
     terms-from 5 (record { d = whole-at d 0; X = number-at b 0; Y = number-at b 1; s = whole-at b 2; k = whole-at k 0; mode = whole-at m 0; terms = [] }) ls))))
 
 -- ---- the sheet of a well-formed text: a coefficient for each i + j at most d, in the order i = 0..d and within it j = 0..d-i
-unfoldable pub coefficients-of : ℕ → List Term → List ℤ
-coefficients-of d ts = flatMap (λ i. map (coefficient-of ts i) (0 ⋯ (d - i))) (0 ⋯ d)
+unfoldable pub in-order : ℕ → (ℕ → ℕ → ℤ) → List ℤ
+in-order d A = flatMap (λ i. map (A i) (0 ⋯ (d - i))) (0 ⋯ d)
 
 abbrev pub sheet-in : Said → Sheet
-sheet-in w = record { d = w .d; coefficients = coefficients-of (w .d) (w .terms); X = w .X; Y = w .Y; s = w .s; k = w .k }
+sheet-in w = record { d = w .d; coefficients = in-order (w .d) (coefficient-of (w .terms)); X = w .X; Y = w .Y; s = w .s; k = w .k }
 
 -- ranges of a well-formed text are judged by the table's rows 1, 3, 4, 5, 6: reading has no lent place, no cell and no point
 abbrev pub to-read : Said → Input

@@ -1,0 +1,4 @@
+-- The answer of `read`, its promise, and what the inner contracts say. The definition of a sheet text stands in `page`.
+pub mod Answers
+pub mod Promises
+pub mod Steps

@@ -1,0 +1,79 @@
+// Reading a sheet text: the whole sheet by value, or a refusal.
+mod digits;
+mod line;
+mod opening;
+mod sheet;
+mod terms;
+
+ghost use Rattle.reading.specs.Promises.{ReadPromise};
+
+// A sheet as a text gives it, its unused coefficients zero; or the number of a refusal, the line where one is meant, and zeros.
+pub struct Reading {
+    pub refusal: u32,
+    pub line: u32,
+    pub d: u32,
+    pub x: i32,
+    pub y: i32,
+    pub s: u32,
+    pub k: u32,
+    pub mode: u32,
+    pub coefficients: [i32; 45],
+}
+
+// What a field holds: a number; one outside 32 bits, or negative where it may not be; or none.
+enum Number {
+    Whole(i32),
+    Outside,
+    Malformed,
+}
+
+// A number and where its field ends, or that the field is none or holds none.
+enum Field {
+    Whole { value: i32, end: usize },
+    Fault,
+}
+
+// The numbers of a line, zeros after the last; where it is bad, zeros.
+struct Numbers {
+    pub good: bool,
+    pub values: [i32; 3],
+}
+
+// The numbers of a line of a text, and where the next line begins.
+struct Taken {
+    pub good: bool,
+    pub next: usize,
+    pub values: [i32; 3],
+}
+
+// What the first four lines say, and where the fifth begins; or the line that is bad, and zeros.
+struct Head {
+    pub bad: u32,
+    pub next: usize,
+    pub d: u32,
+    pub x: i32,
+    pub y: i32,
+    pub s: u32,
+    pub k: u32,
+    pub mode: u32,
+}
+
+// Reads a text of any bytes and any length.
+pub fn read(text: &[u8]) -> Reading
+    ensures { λ r. ⌜ ReadPromise (now (text .entry)) r ⌝ }
+{
+    if 8_192 < text.len() {
+        return sheet::refused(11, 0);
+    }
+    let head = opening::read_head(text);
+    if head.bad != 0 {
+        return sheet::refused(10, head.bad);
+    }
+    let mut values = [0i32; 81];
+    let mut named = [0u8; 81];
+    let bad = terms::read_terms(text, head.next, head.d, &mut values, &mut named);
+    if bad != 0 {
+        return sheet::refused(10, bad);
+    }
+    sheet::judged(head, &values)
+}

@@ -1,0 +1,63 @@
+// The first four lines of a text: `D` d; `B` X Y s; `K` k; `M` mode.
+use crate::Head;
+use crate::line::take_line;
+ghost use mathlib.Core.Path.{_≡_};
+ghost use lib.IntN.{natAbs};
+ghost use Rattle.reading.specs.Steps.{HeadRead};
+
+// The size of a number: that of one that is not negative is the number.
+pub fn size(z: i32) -> u32
+    ensures { λ r. ⌜ r ≡ natAbs z ⌝ }
+{
+    if z < 0 { 1 + !z as u32 } else { z as u32 }
+}
+
+fn bad_head(line: u32) -> Head
+    ensures { λ r. ⌜ r .bad ≡ line ⌝ }
+{
+    Head {
+        bad: line,
+        next: 0,
+        d: 0,
+        x: 0,
+        y: 0,
+        s: 0,
+        k: 0,
+        mode: 0,
+    }
+}
+
+pub fn read_head(text: &[u8]) -> Head
+    ensures { λ r. ⌜ HeadRead (now (text .entry)) r ⌝ }
+{
+    let d = take_line(text, 0, b'D', 1, [false, false, false]);
+    if !d.good {
+        return bad_head(1);
+    }
+    let b = take_line(text, d.next, b'B', 3, [true, true, false]);
+    if !b.good {
+        return bad_head(2);
+    }
+    let k = take_line(text, b.next, b'K', 1, [false, false, false]);
+    if !k.good {
+        return bad_head(3);
+    }
+    let m = take_line(text, k.next, b'M', 1, [false, false, false]);
+    if !m.good {
+        return bad_head(4);
+    }
+    let degree = d.values;
+    let square = b.values;
+    let depth = k.values;
+    let mode = m.values;
+    Head {
+        bad: 0,
+        next: m.next,
+        d: size(degree[0]),
+        x: square[0],
+        y: square[1],
+        s: size(square[2]),
+        k: size(depth[0]),
+        mode: size(mode[0]),
+    }
+}
