@@ -2,7 +2,7 @@
 use mathlib.Core.Path.{_≡_}
 use mathlib.Core.Bool.{Bool, true, false, _&&_, cond}
 use mathlib.Core.List.{List, [], _∷_, _++_}
-use Prim.Native.Nat.{ℕ, suc, _+_, _*_, _-_, _≤_, _<_}
+use Prim.Native.Nat.{ℕ, _+_, _*_, _-_, _≤_, _<_}
 use lib.Dec.{leb, ltb, eqb}
 use lib.IntN.{ℤ, pos, negℤ}
 use lib.ListN.{length, getD, set, take, drop, replicate}
@@ -30,7 +30,7 @@ minus-in negative n = cond (eqb n 0) Number.Malformed (cond negative (cond (ltb 
 
 -- ---- `field_after`: the fields of a line after the one that ends at `at`, and what reading the next one comes to
 abbrev pub fields-after : List ℕ → ℕ → List (List ℕ)
-fields-after line at = cond (ltb at (length line)) (fields (drop (suc at) line)) []
+fields-after line at = cond (ltb at (length line)) (fields (drop (at + 1) line)) []
 
 abbrev pub by-field : List ℕ → List Bool → Field → Numbers
 by-field line ns (Field.Whole z end) = with-first z (numbers ns (fields-after line end))

@@ -1,9 +1,8 @@
 // Numbers as they are written in a field: decimal, no plus, no leading zero, no `-0`, within signed 32 bits.
 use crate::Number;
 ghost use mathlib.Core.Path.{_≡_};
-ghost use mathlib.Core.Bool.{true};
-ghost use Prim.Native.Nat.{_^_, _≤_, min};
-ghost use lib.IntN.{pos, negℤ};
+ghost use mathlib.Core.Bool.{true, cond};
+ghost use Prim.Native.Nat.{_^_, min};
 ghost use Rattle.page.specs.SheetText.{is-digit, is-decimal, is-minus, all-digits, amount};
 ghost use Rattle.reading.specs.Steps.{number-in, signless-in, minus-in};
 
@@ -85,6 +84,13 @@ fn minus(field: &[u8]) -> bool
     field[0] == 45
 }
 
+// Where the digits begin: after the sign.
+fn start(sign: bool) -> usize
+    ensures { λ r. ⌜ r ≡ cond sign 1 0 ⌝ }
+{
+    if sign { 1 } else { 0 }
+}
+
 // The number n, or that it is outside 32 bits.
 fn signless(n: u64) -> Number
     ensures { λ r. ⌜ r ≡ signless-in n ⌝ }
@@ -116,7 +122,7 @@ pub fn number(field: &[u8], negative: bool) -> Number
     ensures { λ r. ⌜ r ≡ number-in negative (now (field .entry)) ⌝ }
 {
     let sign = minus(field);
-    let from = if sign { 1 } else { 0 };
+    let from = start(sign);
     let digits = &field[from..];
     if !decimal(digits) {
         return Number::Malformed;

@@ -54,7 +54,7 @@ fn bad_line() -> Numbers
 
 // The numbers of a line that has to begin with the letter and to hold `count` of them, each negative only where `signs` says so.
 fn line_numbers(line: &[u8], letter: u8, count: usize, signs: [bool; 3]) -> Numbers
-    requires { ⌜ count ≤ 3 ⌝ }
+    requires { ⌜ (count ≤ 3) × (length signs ≡ 3) ⌝ }
     ensures { λ r. ⌜ LineRead (now (line .entry)) letter count signs r ⌝ }
 {
     let mut at = bytes::scan::find(line, 0, line.len(), TAB);
@@ -84,7 +84,7 @@ fn line_numbers(line: &[u8], letter: u8, count: usize, signs: [bool; 3]) -> Numb
 
 // The line of a text from `at` on: bad where it is missing, unended, or not of this form.
 pub fn take_line(text: &[u8], at: usize, letter: u8, count: usize, signs: [bool; 3]) -> Taken
-    requires { ⌜ (at ≤ length (now text)) × (count ≤ 3) ⌝ }
+    requires { ⌜ (at ≤ length (now text)) × (count ≤ 3) × (length signs ≡ 3) ⌝ }
     ensures { λ r. ⌜ LineTaken (now (text .entry)) at letter count signs r ⌝ }
 {
     let end = bytes::scan::find(text, at, text.len(), LF);

@@ -1,0 +1,52 @@
+use borrow.Author.Needs.{needs}
+use Rattle.reading.proofs.line.take_line.Statement.{statement}
+use Rattle.reading.proofs.line.take_line.Tie as tie
+use Rattle.reading.proofs.line.take_line.Reads as reads
+use Rattle.reading.proofs.line.take_line.Lts as lts
+use Rattle.bytes.proofs.scan.find.Reads as find-reads
+use Rattle.reading.proofs.line.line_numbers.Reads as line-numbers-reads
+
+-- src/line.rt:90:9
+find-requires : tie.Need-find-requires
+find-requires c κs = search needs
+
+-- src/line.rt:92:9
+returns : tie.Need-returns
+returns c = untaken _ _ _ _ _ _ (found (c .before .before)) (omega arith) ?
+
+-- src/line.rt:98:32
+sub-line-numbers : tie.Need-sub-line-numbers
+sub-line-numbers c = search needs
+
+-- src/line.rt:98:32
+part-line-numbers-start : tie.Need-part-line-numbers-start
+part-line-numbers-start c = search needs
+
+-- src/line.rt:98:32
+part-line-numbers-end : tie.Need-part-line-numbers-end
+part-line-numbers-end c = search needs
+
+-- src/line.rt:98:9
+line-numbers-requires : tie.Need-line-numbers-requires
+line-numbers-requires c κs = search needs
+
+-- src/line.rt:102:15
+add-t9 : tie.Need-add-t9
+add-t9 c = search needs
+
+-- src/line.rt:86:1
+returns-2 : tie.Need-returns-2
+returns-2 c = taken _ _ _ _ _ _ (found ?) (omega arith) ?
+
+pub take-line-spec : {M : Type 1} → statement M
+take-line-spec =
+    tie.close
+    (tie.spec
+    find-requires
+    returns
+    sub-line-numbers
+    part-line-numbers-start
+    part-line-numbers-end
+    line-numbers-requires
+    add-t9
+    returns-2)
