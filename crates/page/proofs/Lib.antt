@@ -1,4 +1,6 @@
 pub mod Rows
+pub mod TextRows
+pub mod Order
 pub mod Weights
 pub mod Cells
 pub mod Page

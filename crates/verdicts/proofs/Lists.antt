@@ -1,8 +1,8 @@
 -- Laws of lists: joined, mapped, and those members that have a property.
-use mathlib.Core.Path.{_≡_, refl}
+use mathlib.Core.Path.{_≡_, refl, sym}
 use mathlib.Core.Bool.{Bool, false, cond}
 use mathlib.Core.Logic.{inl, inr}
-use mathlib.Core.List.{List, [], _∷_, _++_, map, flatMap, List·Memᴰ, List·Memᴰ·head, List·Memᴰ·tail, List·Memᴰ·append-cases}
+use mathlib.Core.List.{List, [], _∷_, _++_, map, flatMap, append-assoc, List·Memᴰ, List·Memᴰ·head, List·Memᴰ·tail, List·Memᴰ·append-cases}
 use Rattle.algebra.proofs.Choice.{cond-ap}
 use Rattle.verdicts.specs.Walking.{those}
 
@@ -40,6 +40,17 @@ module _ {X Y : Type 0} where
   pub map-cong : (xs : List X) {f g : X → Y} → ((x : X) → List·Memᴰ x xs → f x ≡ g x) → map f xs ≡ map g xs
   map-cong [] h = refl
   map-cong (x ∷ xs) h = rw (h x (List·Memᴰ·head refl), map-cong xs (λ y m. h y (List·Memᴰ·tail m)))
+
+  -- ---- a list for each member, one list after the other: of two joined lists, and by a function that is the same there
+  pub flatMap-++ : (f : X → List Y) (xs ys : List X) → flatMap f (xs ++ ys) ≡ flatMap f xs ++ flatMap f ys
+  unfolding flatMap
+  flatMap-++ f [] ys = refl
+  flatMap-++ f (x ∷ xs) ys = rw (flatMap-++ f xs ys) (sym (append-assoc (f x) (flatMap f xs) (flatMap f ys)))
+
+  pub flatMap-cong : (xs : List X) {f g : X → List Y} → ((x : X) → List·Memᴰ x xs → f x ≡ g x) → flatMap f xs ≡ flatMap g xs
+  unfolding flatMap
+  flatMap-cong [] h = refl
+  flatMap-cong (x ∷ xs) h = rw (h x (List·Memᴰ·head refl), flatMap-cong xs (λ y m. h y (List·Memᴰ·tail m)))
 
   -- ---- one member for each
   pub flatMap-one : (xs : List X) {f : X → List Y} {g : X → Y} → ((x : X) → List·Memᴰ x xs → f x ≡ g x ∷ []) → flatMap f xs ≡ map g xs
