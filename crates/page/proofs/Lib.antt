@@ -7,6 +7,7 @@ pub mod Page
 pub mod Demand3
 pub mod Raster
 pub mod Facts
+pub mod ReadFacts
 pub mod Edges
 pub mod Samples
 pub mod TextSamples

@@ -9,6 +9,7 @@ pub mod Refusals
 pub mod SheetText
 pub mod ListingText
 pub mod Facts
+pub mod ReadFacts
 pub mod Demand3
 pub mod Raster
 pub mod Steps

@@ -1,0 +1,42 @@
+-- What the page says of reading a text, as statements, each with all that it holds for. That they hold is proofs/ReadFacts.
+use mathlib.Core.Path.{_≡_}
+use mathlib.Core.Bool.{true, false}
+use mathlib.Core.List.{List, [], _∷_}
+use Prim.Native.Nat.{ℕ, _≤_}
+use lib.Dec.{ltb}
+use lib.ListN.{length}
+use Rattle.page.specs.Sheet.{count}
+use Rattle.page.specs.Refusals.{Row, _when_, table, first}
+use Rattle.page.specs.SheetText.{Said, Text, bad-line, well-formed, lines, text-of, sheet-in, to-read, Outcome, refused, accepted, outcome}
+
+-- ---- reading never meets 2: a well-formed text has as many coefficients as its degree asks for
+abbrev pub AsManyCoefficients : Type 0
+AsManyCoefficients = (w : Said) → length (sheet-in w .coefficients) ≡ count (w .d)
+
+-- ---- the number of a refusal is one of 1, 3, 4, 5, 6, 10, 11, and only 10 has a line
+pub record ReadNumber (n line : ℕ) : Type 0 where
+  pub not-0 : n ≡ 0 → ⊥
+  pub not-2 : n ≡ 2 → ⊥
+  pub not-7 : n ≡ 7 → ⊥
+  pub not-8 : n ≡ 8 → ⊥
+  pub not-9 : n ≡ 9 → ⊥
+  pub at-most : n ≤ 11
+  pub lineless : (n ≡ 10 → ⊥) → line ≡ 0
+
+abbrev pub ReadNever : Type 0
+ReadNever = (text : List ℕ) (n line : ℕ) → outcome text ≡ refused n line → ReadNumber n line
+
+-- ---- the number is that of the first row that holds, 11 and 10 before the rest; 0 where the text is accepted
+abbrev pub number-of : Outcome → ℕ
+number-of (refused n line) = n
+number-of (accepted w) = 0
+
+abbrev pub rows-of : Text → List Row
+rows-of (bad-line n) = (10 when true) ∷ []
+rows-of (well-formed w) = (10 when false) ∷ table (to-read w)
+
+abbrev pub text-table : List ℕ → List Row
+text-table text = (11 when ltb 8_192 (length text)) ∷ rows-of (text-of (lines text))
+
+abbrev pub ReadTable : Type 0
+ReadTable = (text : List ℕ) → number-of (outcome text) ≡ first (text-table text)
