@@ -2,3 +2,4 @@ pub mod Numerals
 pub mod Parting
 pub mod Counting
 pub mod Taking
+pub mod Gathering
