@@ -3,3 +3,4 @@ pub mod Parting
 pub mod Counting
 pub mod Taking
 pub mod Gathering
+pub mod Judging
