@@ -4,3 +4,4 @@ pub mod Counting
 pub mod Taking
 pub mod Gathering
 pub mod Judging
+pub mod Tables
