@@ -16,7 +16,8 @@ use Rattle.reading.specs.declared.Number.{Number}
 use Rattle.reading.specs.declared.Number.the-variants as Number
 use Rattle.reading.specs.declared.Field.{Field}
 use Rattle.reading.specs.declared.Field.the-variants as Field
-use Rattle.reading.specs.Steps.{number-in, fields-after, by-field, FieldRead, numbers-told, end-of}
+use Rattle.reading.specs.declared.Numbers as Read
+use Rattle.reading.specs.Steps.{number-in, fields-after, by-field, FieldRead, LineRead, numbers-told, end-of}
 use Rattle.reading.proofs.Parting.{Finds, next-field}
 
 -- ---- the numbers of a line, by what its next field holds
@@ -108,8 +109,9 @@ one-more values i z h =
     let g : i < length (set values i z) = lt-length-set values i z h in
     ap (λ m. take m (set values i z)) (add-one i) ∙ take-suc (set values i z) i z g ∙ rw (take-set-le i values i z (Nat.le-refl i), getD-set-same values i z z h)
 
-pub told-bad : (n : ℕ) (ok : Bool) (zs : List ℤ) → ok ≡ false → bad ≡ numbers-told n ok zs
-told-bad n ok zs e = rw e
+-- a line that is bad
+pub bad-read : {l : List ℕ} {letter n : ℕ} {signs : List Bool} {r : Read.Numbers} → after-letter letter (take n signs) (fields l) ≡ bad → (r .good ≡ false) × (length (r .values) ≡ 3) → LineRead l letter n signs r
+bad-read {r = r} e (g, h) = record { read = e ∙ rw g; three = h }
 
 -- ---- the loop over the fields
 pub record Counting (l : List ℕ) (letter n : ℕ) (signs : List Bool) (at : ℕ) (values : List ℤ) (i : ℕ) : Type 0 where

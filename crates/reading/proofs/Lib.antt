@@ -5,3 +5,4 @@ pub mod Taking
 pub mod Gathering
 pub mod Judging
 pub mod Tables
+pub mod Heads

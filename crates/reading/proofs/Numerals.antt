@@ -12,7 +12,7 @@ use mir.Syntax.{w32}
 use mir.Val.{toZ, ofZ}
 use mir.Facts.{toZ-neg, toZ-ofZ}
 use lib.Dec.{leb, ltb, eqb}
-use lib.IntN.{ℤ, pos, negsuc, negℤ}
+use lib.IntN.{ℤ, pos, negsuc, negℤ, natAbs}
 use lib.ListN.{length, getD, take, drop}
 use lib.Seq.{drop-cons, drop-length}
 use lib.Signed.{ltZ, mag}
@@ -213,3 +213,6 @@ module _ (negative : Bool) (f : List ℕ) (s : Bool) (r : ℕ) (p : Split f s r)
 -- ---- a number that fits 32 bits is that of its bits
 pub read32 : (z : ℤ) → mag z < 2 ^ 31 → toZ w32 (ofZ w32 z) ≡ z
 read32 z h = toZ-ofZ (record { sfits = h })
+
+pub sized : (z : ℤ) {r : ℕ} → r ≡ natAbs (toZ w32 (ofZ w32 z)) → mag z < 2 ^ 31 → r ≡ natAbs z
+sized z e h = e ∙ ap natAbs (read32 z h)

@@ -7,7 +7,7 @@ use lib.Dec.{leb, ltb, eqb}
 use lib.IntN.{ℤ, pos, negℤ}
 use lib.ListN.{length, getD, set, take, drop, replicate}
 use Rattle.page.specs.Sheet.{count}
-use Rattle.page.specs.SheetText.{Line, lines, fields, is-written, is-within, worth, Numbers, bad, good, with-first, numbers, after-letter, Term, coefficient-of, is-named, Said, Text, bad-line, well-formed, with-terms, line-then, terms-from, text-of, in-order, outcome-of}
+use Rattle.page.specs.SheetText.{Line, lines, fields, is-written, is-within, worth, Numbers, bad, good, with-first, numbers, after-letter, number-at, whole-at, Term, coefficient-of, is-named, Said, Text, bad-line, well-formed, with-terms, line-then, terms-from, text-of, in-order, outcome-of}
 use Rattle.reading.specs.declared.Number.{Number}
 use Rattle.reading.specs.declared.Number.the-variants as Number
 use Rattle.reading.specs.declared.Field.{Field}
@@ -48,19 +48,25 @@ pub record FieldRead (line : List ℕ) (at : ℕ) (negative : Bool) (r : Field) 
 abbrev pub numbers-told : ℕ → Bool → List ℤ → Numbers
 numbers-told n ok zs = cond ok (good (take n zs)) bad
 
-abbrev pub LineRead : List ℕ → ℕ → ℕ → List Bool → Read.Numbers → Type 0
-LineRead line letter n signs r = after-letter letter (take n signs) (fields line) ≡ numbers-told n (r .good) (r .values)
+pub record LineRead (line : List ℕ) (letter n : ℕ) (signs : List Bool) (r : Read.Numbers) : Type 0 where
+  pub read : after-letter letter (take n signs) (fields line) ≡ numbers-told n (r .good) (r .values)
+  pub three : length (r .values) ≡ 3
 
 -- ---- `take_line`: the line of a text from `at` on, whatever its number and whatever is done with the lines after it
 pub record LineTaken (text : List ℕ) (at letter n : ℕ) (signs : List Bool) (r : Taken) : Type 0 where
   pub step : (number : ℕ) (rest : List ℤ → List Line → Text)
       → line-then number letter (take n signs) (lines (drop at text)) rest ≡ cond (r .good) (rest (take n (r .values)) (lines (drop (r .next) text))) (bad-line number)
+  pub three : length (r .values) ≡ 3
   pub within : r .next ≤ length text
   pub further : r .good ≡ true → at < r .next
 
 -- ---- `read_head`
 abbrev pub said-by : Head → List Term → Said
 said-by h ts = record { d = h .d; X = h .x; Y = h .y; s = h .s; k = h .k; mode = h .mode; terms = ts }
+
+-- `head_of`: by the numbers of each line
+abbrev pub head-by : ℕ → List ℤ → List ℤ → List ℤ → List ℤ → Head
+head-by next d b k m = record { bad = 0; next = next; d = whole-at d 0; x = number-at b 0; y = number-at b 1; s = whole-at b 2; k = whole-at k 0; mode = whole-at m 0 }
 
 pub record HeadRead (text : List ℕ) (h : Head) : Type 0 where
   pub read : text-of (lines text) ≡ cond (eqb (h .bad) 0) (terms-from 5 (said-by h []) (lines (drop (h .next) text))) (bad-line (h .bad))
@@ -77,6 +83,9 @@ pub record Enters (d i j : ℕ) (c : ℤ) (values values′ : List ℤ) (named n
   pub answer : r ≡ admitted d i j named
   pub entered : values′ ≡ cond r (set values (place-of i j) c) values
   pub marked : named′ ≡ cond r (set named (place-of i j) 1) named
+
+abbrev pub EntersTerm : ℕ → List ℤ → List ℤ → List ℤ → List ℕ → List ℕ → Bool → Type 0
+EntersTerm d zs values values′ named named′ r = Enters d (whole-at zs 0) (whole-at zs 1) (number-at zs 2) values values′ named named′ r
 
 -- two tables hold the terms
 pub record Tables (ts : List Term) (values : List ℤ) (named : List ℕ) : Type 0 where

@@ -44,7 +44,7 @@ fn field_after(line: &[u8], at: usize, negative: bool) -> Field
 }
 
 fn bad_line() -> Numbers
-    ensures { λ r. ⌜ (r .good ≡ false) ⌝ }
+    ensures { λ r. ⌜ (r .good ≡ false) × (length (r .values) ≡ 3) ⌝ }
 {
     Numbers {
         good: false,

@@ -3,17 +3,18 @@ use crate::Head;
 use crate::line::take_line;
 ghost use mathlib.Core.Path.{_≡_};
 ghost use lib.IntN.{natAbs};
-ghost use Rattle.reading.specs.Steps.{HeadRead};
+ghost use lib.ListN.{length};
+ghost use Rattle.reading.specs.Steps.{head-by, HeadRead};
 
 // The size of a number: that of one that is not negative is the number.
 pub fn size(z: i32) -> u32
     ensures { λ r. ⌜ r ≡ natAbs z ⌝ }
 {
-    if z < 0 { 1 + !z as u32 } else { z as u32 }
+    numbers::size(numbers::wide(z)) as u32
 }
 
 fn bad_head(line: u32) -> Head
-    ensures { λ r. ⌜ r .bad ≡ line ⌝ }
+    ensures { λ r. ⌜ (r .bad ≡ line) × (r .next ≡ 0) ⌝ }
 {
     Head {
         bad: line,
@@ -24,6 +25,23 @@ fn bad_head(line: u32) -> Head
         s: 0,
         k: 0,
         mode: 0,
+    }
+}
+
+// What the four lines say, by the numbers of each.
+fn head_of(next: usize, degree: [i32; 3], square: [i32; 3], depth: [i32; 3], mode: [i32; 3]) -> Head
+    requires { ⌜ (length degree ≡ 3) × (length square ≡ 3) × (length depth ≡ 3) × (length mode ≡ 3) ⌝ }
+    ensures { λ r. ⌜ r ≡ head-by next degree square depth mode ⌝ }
+{
+    Head {
+        bad: 0,
+        next,
+        d: size(degree[0]),
+        x: square[0],
+        y: square[1],
+        s: size(square[2]),
+        k: size(depth[0]),
+        mode: size(mode[0]),
     }
 }
 
@@ -50,14 +68,5 @@ pub fn read_head(text: &[u8]) -> Head
     let square = b.values;
     let depth = k.values;
     let mode = m.values;
-    Head {
-        bad: 0,
-        next: m.next,
-        d: size(degree[0]),
-        x: square[0],
-        y: square[1],
-        s: size(square[2]),
-        k: size(depth[0]),
-        mode: size(mode[0]),
-    }
+    head_of(m.next, degree, square, depth, mode)
 }

@@ -5,7 +5,7 @@ ghost use mathlib.Core.Path.{_≡_};
 ghost use mathlib.Core.List.{[]};
 ghost use Prim.Native.Nat.{_≤_, _<_};
 ghost use lib.ListN.{length};
-ghost use Rattle.reading.specs.Steps.{Enters, Tables, TermTaken, TermsRead};
+ghost use Rattle.reading.specs.Steps.{Enters, EntersTerm, Tables, TermTaken, TermsRead};
 
 // Enters the term unless it is beyond the degree or named before: whether it was entered.
 fn enter(d: u32, i: u32, j: u32, coefficient: i32, values: &mut [i32], named: &mut [u8]) -> bool
@@ -30,6 +30,16 @@ fn enter(d: u32, i: u32, j: u32, coefficient: i32, values: &mut [i32], named: &m
     true
 }
 
+// Enters the term of a line's three numbers: whether it was entered.
+fn enter_term(d: u32, term: [i32; 3], values: &mut [i32], named: &mut [u8]) -> bool
+    requires { ⌜ (length term ≡ 3) × (length (now values) ≡ 81) × (length (now named) ≡ 81) ⌝ }
+    ensures { λ r. ⌜ EntersTerm d term (now (values .entry)) (now (values .exit)) (now (named .entry)) (now (named .exit)) r ⌝ }
+{
+    let i = size(term[0]);
+    let j = size(term[1]);
+    enter(d, i, j, term[2], values, named)
+}
+
 // The line of a text from `at` on, as a term: where the next line begins, or 0 where it is bad.
 fn term_line(text: &[u8], at: usize, d: u32, values: &mut [i32], named: &mut [u8]) -> usize
     requires { ⌜ (at < length (now text)) × (length (now values) ≡ 81) × (length (now named) ≡ 81) ⌝ }
@@ -40,7 +50,7 @@ fn term_line(text: &[u8], at: usize, d: u32, values: &mut [i32], named: &mut [u8
         return 0;
     }
     let term = taken.values;
-    if enter(d, size(term[0]), size(term[1]), term[2], values, named) {
+    if enter_term(d, term, values, named) {
         return taken.next;
     }
     0

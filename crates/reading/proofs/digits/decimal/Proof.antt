@@ -28,7 +28,7 @@ digits-only-requires c κs = search needs
 
 -- src/digits.rt:42:1
 returns-3 : tie.Need-returns-3
-returns-3 c = let s = c .before .before .before .before in c .digits-only .ensures ∙ no-leading-zero (s .args .digits .now) (c .before .before .if1 .left) (λ g z. elim (c .before .if2 .came) [ | inl h ↦ h .2 .left z | inr h ↦ absurd (omega (arith, h .left)) ])
+returns-3 c = let s = c .before .before .before .before in c .digits-only .ensures ∙ no-leading-zero (s .args .digits .now) (c .before .before .if1 .left) (λ g z. elim (c .before .if2 .came) [ inl h ↦ h .2 .left z | inr h ↦ absurd (omega (arith, h .left)) ])
 
 pub decimal-spec : {M : Type 1} → statement M
 decimal-spec =

@@ -14,7 +14,7 @@ use Rattle.reading.specs.declared.Field.the-variants as Field
 use Rattle.reading.specs.Steps.{FieldRead}
 use Rattle.reading.proofs.Numerals.{read32}
 use Rattle.reading.proofs.Parting.{Finds, finds}
-use Rattle.reading.proofs.Counting.{Counting, other-letter, counting-start, counting-fault, counting-next, counting-end, next-sign, told-bad}
+use Rattle.reading.proofs.Counting.{Counting, other-letter, counting-start, counting-fault, counting-next, counting-end, next-sign, bad-read}
 use Rattle.reading.proofs.line.line_numbers.Statement.{statement}
 use Rattle.reading.proofs.line.line_numbers.Tie as tie
 use Rattle.reading.proofs.line.line_numbers.Reads as reads
@@ -70,7 +70,7 @@ bad-line-requires c κs = tt
 
 -- src/line.rt:62:9
 returns : tie.Need-returns Inv-loop μ-loop
-returns c = let s = c .before .before .before .before .before .before in other-letter (s .args .line .now) (s .args .letter) (s .args .count) (s .args .t4) (found (c .before .before .before .before)) (c .before .before .letter-alone .ensures) (not-true _ (c .before .if1 .taken)) ∙ told-bad (s .args .count) (c .bad-line .result .good) (c .bad-line .result .values) (c .bad-line .ensures)
+returns c = let s = c .before .before .before .before .before .before in bad-read (other-letter (s .args .line .now) (s .args .letter) (s .args .count) (s .args .t4) (found (c .before .before .before .before)) (c .before .before .letter-alone .ensures) (not-true _ (c .before .if1 .taken))) (c .bad-line .ensures)
 
 -- src/line.rt:66:5
 loop-holds : tie.Need-loop-holds Inv-loop μ-loop
@@ -106,7 +106,7 @@ bad-line-requires-2 c κs = tt
 
 -- src/line.rt:74:17
 returns-2 : tie.Need-returns-2 Inv-loop μ-loop
-returns-2 c = let a = c .before .before .before in fault a (c .before .enum-told .given .1) ∙ told-bad (a .before .before .before .before .before .before .before .before .args .count) (c .bad-line2 .result .good) (c .bad-line2 .result .values) (c .bad-line2 .ensures)
+returns-2 c = let a = c .before .before .before in bad-read (fault a (c .before .enum-told .given .1)) (c .bad-line2 .ensures)
 
 -- src/line.rt:77:9
 add-i : tie.Need-add-i Inv-loop μ-loop
@@ -122,7 +122,7 @@ loop-again c = let a = c .before .before .before in next a (c .before .field .gi
 
 -- src/line.rt:56:1
 returns-3 : tie.Need-returns-3 Inv-loop μ-loop
-returns-3 c = counting-end _ _ _ _ (c .before .loop .at) (c .before .loop .values) (c .before .loop .i) (c .before .loop .inv) (omega arith)
+returns-3 c = let l = c .before .loop in record { read = counting-end _ _ _ _ (l .at) (l .values) (l .i) (l .inv) (omega arith); three = l .inv .long }
 
 pub line-numbers-spec : {M : Type 1} → statement M
 line-numbers-spec =

@@ -1,3 +1,6 @@
+-- `reading::opening::read_head` meets its contract, line after line.
+use borrow.Author.Tests.{not-true, not-false}
+use Rattle.reading.proofs.Heads.{bad-1, bad-2, bad-3, bad-4, all-four}
 use borrow.Author.Needs.{needs}
 use Rattle.reading.proofs.opening.read_head.Statement.{statement}
 use Rattle.reading.proofs.opening.read_head.Tie as tie
@@ -5,99 +8,73 @@ use Rattle.reading.proofs.opening.read_head.Reads as reads
 use Rattle.reading.proofs.opening.read_head.Lts as lts
 use Rattle.reading.proofs.line.take_line.Reads as take-line-reads
 use Rattle.reading.proofs.opening.bad_head.Reads as bad-head-reads
-use Rattle.reading.proofs.opening.size.Reads as size-reads
+use Rattle.reading.proofs.opening.head_of.Reads as head-of-reads
 
--- src/opening.rt:33:9
+-- src/opening.rt:51:9
 take-line-requires : tie.Need-take-line-requires
 take-line-requires c κs = search needs
 
--- src/opening.rt:35:9
+-- src/opening.rt:53:9
 bad-head-requires : tie.Need-bad-head-requires
 bad-head-requires c κs = search needs
 
--- src/opening.rt:35:9
+-- src/opening.rt:53:9
 returns : tie.Need-returns
-returns c = ?
+returns c = bad-1 _ (c .before .before .before .take-line .ensures) (not-true _ (c .before .if1 .taken)) (c .bad-head .ensures)
 
--- src/opening.rt:37:9
+-- src/opening.rt:55:9
 take-line-requires-2 : tie.Need-take-line-requires-2
 take-line-requires-2 c κs = search needs
 
--- src/opening.rt:39:9
+-- src/opening.rt:57:9
 bad-head-requires-2 : tie.Need-bad-head-requires-2
 bad-head-requires-2 c κs = search needs
 
--- src/opening.rt:39:9
+-- src/opening.rt:57:9
 returns-2 : tie.Need-returns-2
-returns-2 c = ?
+returns-2 c =
+    let l2 = c .before .before .before in let l1 = l2 .before .before .before in
+    bad-2 _ (l1 .take-line .ensures) (not-false _ (l2 .before .if1 .left)) (l2 .take-line2 .ensures) (not-true _ (c .before .if2 .taken)) (c .bad-head2 .ensures)
 
--- src/opening.rt:41:9
+-- src/opening.rt:59:9
 take-line-requires-3 : tie.Need-take-line-requires-3
 take-line-requires-3 c κs = search needs
 
--- src/opening.rt:43:9
+-- src/opening.rt:61:9
 bad-head-requires-3 : tie.Need-bad-head-requires-3
 bad-head-requires-3 c κs = search needs
 
--- src/opening.rt:43:9
+-- src/opening.rt:61:9
 returns-3 : tie.Need-returns-3
-returns-3 c = ?
+returns-3 c =
+    let l3 = c .before .before .before in let l2 = l3 .before .before .before in let l1 = l2 .before .before .before in
+    bad-3 _ (l1 .take-line .ensures) (not-false _ (l2 .before .if1 .left)) (l2 .take-line2 .ensures) (not-false _ (l3 .before .if2 .left)) (l3 .take-line3 .ensures) (not-true _ (c .before .if3 .taken)) (c .bad-head3 .ensures)
 
--- src/opening.rt:45:9
+-- src/opening.rt:63:9
 take-line-requires-4 : tie.Need-take-line-requires-4
 take-line-requires-4 c κs = search needs
 
--- src/opening.rt:47:9
+-- src/opening.rt:65:9
 bad-head-requires-4 : tie.Need-bad-head-requires-4
 bad-head-requires-4 c κs = search needs
 
--- src/opening.rt:47:9
+-- src/opening.rt:65:9
 returns-4 : tie.Need-returns-4
-returns-4 c = ?
+returns-4 c =
+    let l4 = c .before .before .before in let l3 = l4 .before .before .before in let l2 = l3 .before .before .before in let l1 = l2 .before .before .before in
+    bad-4 _ (l1 .take-line .ensures) (not-false _ (l2 .before .if1 .left)) (l2 .take-line2 .ensures) (not-false _ (l3 .before .if2 .left)) (l3 .take-line3 .ensures) (not-false _ (l4 .before .if3 .left))
+    (l4 .take-line4 .ensures) (not-true _ (c .before .if4 .taken)) (c .bad-head4 .ensures)
 
--- src/opening.rt:56:17
-array-copy-out-size : tie.Need-array-copy-out-size
-array-copy-out-size c = search needs
+-- src/opening.rt:71:5
+head-of-requires : tie.Need-head-of-requires
+head-of-requires c κs = search needs
 
--- src/opening.rt:56:12
-size-requires : tie.Need-size-requires
-size-requires c κs = search needs
-
--- src/opening.rt:57:12
-array-copy-out-t18 : tie.Need-array-copy-out-t18
-array-copy-out-t18 c = search needs
-
--- src/opening.rt:58:12
-array-copy-out-t21 : tie.Need-array-copy-out-t21
-array-copy-out-t21 c = search needs
-
--- src/opening.rt:59:17
-array-copy-out-size-2 : tie.Need-array-copy-out-size-2
-array-copy-out-size-2 c = search needs
-
--- src/opening.rt:59:12
-size-requires-2 : tie.Need-size-requires-2
-size-requires-2 c κs = search needs
-
--- src/opening.rt:60:17
-array-copy-out-size-3 : tie.Need-array-copy-out-size-3
-array-copy-out-size-3 c = search needs
-
--- src/opening.rt:60:12
-size-requires-3 : tie.Need-size-requires-3
-size-requires-3 c κs = search needs
-
--- src/opening.rt:61:20
-array-copy-out-size-4 : tie.Need-array-copy-out-size-4
-array-copy-out-size-4 c = search needs
-
--- src/opening.rt:61:15
-size-requires-4 : tie.Need-size-requires-4
-size-requires-4 c κs = search needs
-
--- src/opening.rt:30:1
+-- src/opening.rt:48:1
 returns-5 : tie.Need-returns-5
-returns-5 c = ?
+returns-5 c =
+    let e = c .before .before .before .before .before in let l4 = e .before .before in let l3 = l4 .before .before .before in let l2 = l3 .before .before .before in let l1 = l2 .before .before .before in
+    all-four _ (l1 .take-line .ensures) (not-false _ (l2 .before .if1 .left)) (l2 .take-line2 .ensures) (not-false _ (l3 .before .if2 .left)) (l3 .take-line3 .ensures) (not-false _ (l4 .before .if3 .left))
+    (l4 .take-line4 .ensures) (not-false _ (e .if4 .left)) (c .head-of .ensures)
 
 pub read-head-spec : {M : Type 1} → statement M
 read-head-spec =
@@ -115,14 +92,5 @@ read-head-spec =
     take-line-requires-4
     bad-head-requires-4
     returns-4
-    array-copy-out-size
-    size-requires
-    array-copy-out-t18
-    array-copy-out-t21
-    array-copy-out-size-2
-    size-requires-2
-    array-copy-out-size-3
-    size-requires-3
-    array-copy-out-size-4
-    size-requires-4
+    head-of-requires
     returns-5)

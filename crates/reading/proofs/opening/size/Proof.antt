@@ -1,28 +1,30 @@
+-- `reading::opening::size` meets its contract, by the size in 64 bits.
+use mathlib.Core.Path.{_≡_, _∙_}
+use native.Mathlib.Omega.{arith}
 use borrow.Author.Needs.{needs}
+use mir.Syntax.{w64}
+use mir.Val.{toZ, ofZ}
+use mir.Facts.{toZ-ofZ}
+use Rattle.numbers.proofs.Machine.{read64}
 use Rattle.reading.proofs.opening.size.Statement.{statement}
 use Rattle.reading.proofs.opening.size.Tie as tie
-use Rattle.reading.proofs.opening.size.Reads as reads
-use Rattle.reading.proofs.opening.size.Lts as lts
 
--- src/opening.rt:12:20
+wide-is : (c : tie.After-wide) → toZ w64 (ofZ w64 (c .wide .result)) ≡ c .before .args .z
+wide-is c = read64 (c .wide .result) (c .wide .ok) ∙ c .wide .ensures .0 ∙ toZ-ofZ (c .before .fits .z)
+
+wide-requires : tie.Need-wide-requires
+wide-requires c κs = search needs
+
+size-requires : tie.Need-size-requires
+size-requires c κs = rw (wide-is c) (let h = rw (toZ-ofZ (c .before .fits .z)) at (c .wide .ensures .1) in omega arith)
+
 cast-result : tie.Need-cast-result
-cast-result c = ?
+cast-result c =
+    let h = rw (toZ-ofZ (c .before .before .fits .z)) at (c .before .wide .ensures .1) in let e = rw (wide-is (c .before)) at (c .size .ensures) in
+    record { fits = omega (arith, e) }
 
--- src/opening.rt:12:16
-add-result : tie.Need-add-result
-add-result c = ?
-
--- src/opening.rt:12:39
-cast-result-2 : tie.Need-cast-result-2
-cast-result-2 c = ?
-
--- src/opening.rt:9:1
 returns : tie.Need-returns
-returns c = ?
-
--- src/opening.rt:9:1
-returns-2 : tie.Need-returns-2
-returns-2 c = search needs
+returns c = rw (wide-is (c .before)) at (c .size .ensures)
 
 pub size-spec : {M : Type 1} → statement M
-size-spec = tie.close (tie.spec cast-result add-result cast-result-2 returns returns-2)
+size-spec = tie.close (tie.spec wide-requires size-requires cast-result returns)

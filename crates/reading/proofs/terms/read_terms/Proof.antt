@@ -10,47 +10,47 @@ Inv-loop text from d values₀ named₀ at₀ line₀ values named at line = ?
 abbrev μ-loop : tie.MeasureT-loop
 μ-loop text from d values₀ named₀ at₀ line₀ values named at line = ?
 
--- src/terms.rt:56:5
+-- src/terms.rt:66:5
 loop-holds : tie.Need-loop-holds Inv-loop μ-loop
 loop-holds c = ?
 
--- src/terms.rt:57:13
+-- src/terms.rt:67:13
 term-line-requires : tie.Need-term-line-requires Inv-loop μ-loop
 term-line-requires c κs = ?
 
--- src/terms.rt:59:13
+-- src/terms.rt:69:13
 same-length : tie.Need-same-length Inv-loop μ-loop
 same-length c = ?
 
--- src/terms.rt:59:13
+-- src/terms.rt:69:13
 same-length-2 : tie.Need-same-length-2 Inv-loop μ-loop
 same-length-2 c = ?
 
--- src/terms.rt:59:13
+-- src/terms.rt:69:13
 returns : tie.Need-returns Inv-loop μ-loop
 returns c = ?
 
--- src/terms.rt:62:9
+-- src/terms.rt:72:9
 add-line : tie.Need-add-line Inv-loop μ-loop
 add-line c = ?
 
--- src/terms.rt:56:5
+-- src/terms.rt:66:5
 loop-less : tie.Need-loop-less Inv-loop μ-loop
 loop-less c = ?
 
--- src/terms.rt:56:5
+-- src/terms.rt:66:5
 loop-again : tie.Need-loop-again Inv-loop μ-loop
 loop-again c = ?
 
--- src/terms.rt:50:1
+-- src/terms.rt:60:1
 same-length-3 : tie.Need-same-length-3 Inv-loop μ-loop
 same-length-3 c = ?
 
--- src/terms.rt:50:1
+-- src/terms.rt:60:1
 same-length-4 : tie.Need-same-length-4 Inv-loop μ-loop
 same-length-4 c = ?
 
--- src/terms.rt:50:1
+-- src/terms.rt:60:1
 returns-2 : tie.Need-returns-2 Inv-loop μ-loop
 returns-2 c = ?
 
