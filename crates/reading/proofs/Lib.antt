@@ -6,3 +6,5 @@ pub mod Gathering
 pub mod Judging
 pub mod Tables
 pub mod Heads
+pub mod Naming
+pub mod Promises
