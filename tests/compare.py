@@ -18,20 +18,17 @@ its raster, and both tallies are counted from the records.
 import argparse
 import ast
 import collections
-import os
 import pathlib
 import random
-import shutil
 import struct
-import subprocess
 import sys
 
 sys.dont_write_bytecode = True  # nothing is left in the tree
 import second
 from cases import CALLS, COUNT, ENTRIES, REFUSALS, WALKS, all_cases, filled
+from program import BUILT, code, number, written_by
 
-ROOT = pathlib.Path(__file__).resolve().parent.parent
-PROGRAM = ROOT / "target" / "bin" / "compare"
+PROGRAM = BUILT / "compare"
 VERDICTS = {1: "above", 2: "below", 3: "open"}
 # how many numbers each call answers, beside a place
 LENGTHS = {"check": 3, "value": 2, "bounds": 5, "raster": 3, "listing": 4}
@@ -49,15 +46,6 @@ SHOWN = 5
 
 
 # ---- the proved program
-
-def code(number, bits):
-    """A signed number as the program takes and gives it: a negative one by its top bit and its steps below -1."""
-    return number if number >= 0 else 2 ** (bits - 1) + (-1 - number)
-
-
-def number(code, bits):
-    return code if code < 2 ** (bits - 1) else -1 - (code - 2 ** (bits - 1))
-
 
 def record(call, args):
     """A case in bytes."""
@@ -86,18 +74,6 @@ def answer(call, words):
     return 0, VERDICTS.get(verdict), number(lower, 64), number(upper, 64), bend
 
 
-def command(program):
-    """The program is for x86-64 Linux. It is run as `rt` runs it: by the kit's loader, and elsewhere under the kit's emulator."""
-    rt = shutil.which("rt")
-    if rt is None:
-        sys.exit("compare: there is no rt, whose kit has the loader of a built program")
-    kit = pathlib.Path(os.environ.get("RATTLE_HOME") or pathlib.Path(rt).resolve().parent.parent)
-    tools = kit / "on" / os.uname().machine / "toolchain"
-    emulator = tools / "bin" / "qemu-x86_64"
-    loader = [tools / "lib" / "ld-linux-x86-64.so.2", "--library-path", tools / "lib"]
-    return ([emulator] if emulator.is_file() else []) + loader + [program]
-
-
 def entries_of(call, args):
     """How many entries follow an answer: those of the place."""
     return args[-1] if call in WALKS else 0
@@ -116,22 +92,13 @@ def answers_in(output, cases):
         yield words
 
 
-def settings():
-    """The environment without what would tell an emulator to do otherwise."""
-    return {name: setting for name, setting in os.environ.items() if not name.startswith("QEMU_")}
-
-
 def run(program, cases):
     """The program's answers."""
-    if not program.is_file():
-        sys.exit(f"compare: {program} is not there: `rt check` proves and builds it")
-    ended = subprocess.run(command(program), input=b"".join(record(*case) for case in cases), capture_output=True, env=settings())
-    if ended.returncode != 0:
-        sys.exit(f"compare: the program ended with status {ended.returncode}: {ended.stderr.decode(errors='replace')}")
+    output = written_by(program, b"".join(record(*case) for case in cases))
     length = sum(40 + WIDTHS.get(call, 0) * entries_of(call, args) for call, args in cases)
-    if len(ended.stdout) != length:
-        sys.exit(f"compare: the answers to {len(cases)} cases have {length} bytes with their places, and {len(ended.stdout)} bytes came")
-    return list(answers_in(ended.stdout, cases))
+    if len(output) != length:
+        sys.exit(f"compare: the answers to {len(cases)} cases have {length} bytes with their places, and {len(output)} bytes came")
+    return list(answers_in(output, cases))
 
 
 # ---- the second program
