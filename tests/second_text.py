@@ -1,0 +1,257 @@
+"""The second program where it meets texts: the call read and the listing program, worked out from the definition page alone.
+
+A text is a row of bytes, and nothing is asked of it: no decoding, no reading of numbers but by the page's own rule. The sheet that a text
+describes is judged and walked by tests/second.py.
+
+    python3 tests/second_text.py          holds the program to the page's whole case and to what the page says of lines, fields and numbers
+    python3 tests/second_text.py FILE     writes what the listing program writes for a text
+"""
+import pathlib
+import re
+import sys
+
+sys.dont_write_bytecode = True  # nothing is left in the tree
+import second
+
+LONGEST = 8_192
+PLACES = 45
+LEAST, MOST = -2 ** 31, 2 ** 31 - 1
+# what a number may be written as: ASCII digits, no plus, no leading zero, no -0
+NUMBER = re.compile(rb"0|-?[1-9][0-9]*")
+# the lines that every text begins with, and the line that may follow any number of times: the letter, and the least that each number may be
+HEAD = ((b"D", (0,)), (b"B", (LEAST, LEAST, 0)), (b"K", (0,)), (b"M", (0,)))
+TERM = (b"T", (0, 0, LEAST))
+MARKS = {1: b"0", 2: b"+", 3: b"-"}
+
+
+# ---- reading
+
+def lines_of(text):
+    """The lines, each with whether an LF ends it. A text that ends in LF has no further line, and an empty text has none."""
+    *ended, rest = text.split(b"\n")
+    return [(line, True) for line in ended] + ([(rest, False)] if rest else [])
+
+
+def number_in(field, least):
+    """The number that a field holds, or None where it is badly written, outside 32 bits or below the least.
+
+    No number has a leading zero, so one of more than ten digits is outside 32 bits, whatever they are.
+    """
+    if not NUMBER.fullmatch(field) or len(field.removeprefix(b"-")) > 10:
+        return None
+    value = int(field)
+    return value if least <= value <= MOST else None
+
+
+def numbers_in(line, form):
+    """The numbers in a line of a form, or None where the line is not of it."""
+    letter, least = form
+    first, *fields = line.split(b"\t")
+    if first != letter or len(fields) != len(least):
+        return None
+    numbers = [number_in(field, low) for field, low in zip(fields, least)]
+    return None if None in numbers else numbers
+
+
+def parsed(text):
+    """The line that is bad, or 0; the numbers of the first four lines; the coefficients that are named, under their exponents.
+
+    Each line is judged with what stood before it: a term is bad at its second place.
+    """
+    lines, head, named = lines_of(text), [], {}
+    for at, (line, ended) in enumerate(lines):
+        numbers = numbers_in(line, HEAD[at] if at < len(HEAD) else TERM)
+        if not ended or numbers is None:
+            return at + 1, head, named
+        if at < len(HEAD):
+            head += numbers
+            continue
+        i, j, coefficient = numbers
+        if i + j > head[0] or max(i, j) > 8 or (i, j) in named:
+            return at + 1, head, named
+        named[i, j] = coefficient
+    return (len(lines) + 1 if len(lines) < len(HEAD) else 0), head, named
+
+
+def refused(number, line=0):
+    """A refused reading: its number, its line, and a sheet of zeros."""
+    return number, line, 0, 0, 0, 0, 0, 0, (0,) * PLACES
+
+
+def read(text):
+    """(number, line, d, X, Y, s, k, mode, the 45 places for coefficients, those not used being 0)"""
+    if len(text) > LONGEST:
+        return refused(11)
+    line, head, named = parsed(text)
+    if line:
+        return refused(10, line)
+    d, X, Y, s, k, mode = head
+    coefficients = second.terms(d, named) if d <= 8 else []
+    number = second.refusal(d, coefficients, X, Y, s, k, mode=mode)
+    if number:
+        return refused(number)
+    return 0, 0, d, X, Y, s, k, mode, (*coefficients, *[0] * (PLACES - len(coefficients)))
+
+
+# ---- the listing program
+
+def line_of(*fields):
+    return b"\t".join(field if isinstance(field, bytes) else b"%d" % field for field in fields) + b"\n"
+
+
+def listing_text(text):
+    """What the listing program writes for a text."""
+    number, line, d, X, Y, s, k, mode, coefficients = read(text)
+    if number:
+        return line_of(b"refused", number, line)
+    used = list(coefficients[:len(second.exponents(d))])
+    _, length, visited, coloured, place = second.listing(d, used, X, Y, s, k, mode, [0] * 4 ** k)
+    records = [line_of(*second.cell_of(record), MARKS[record % 4]) for record in place[:length]]
+    return b"".join(records) + line_of(b"total", visited, coloured)
+
+
+# ---- the page's own words
+
+def written(*lines):
+    """A text, a blank standing for each tab."""
+    return b"".join(line.encode().replace(b" ", b"\t") + b"\n" for line in lines)
+
+
+START = ("D 1", "B 0 0 0", "K 1", "M 0")
+WHOLE = written(*START, "T 0 1 -1", "T 1 0 1")
+WHOLE_LISTING = written("1 0 0 0", "1 1 0 0", "1 0 1 0", "1 1 1 0", "total 5 4")
+
+
+def sheet(d, X, Y, s, k, mode, *coefficients):
+    """The answer of a reading that is not refused."""
+    return 0, 0, d, X, Y, s, k, mode, coefficients + (0,) * (PLACES - len(coefficients))
+
+
+def swapped(at, line, lines=START + ("T 0 1 -1", "T 1 0 1")):
+    """The whole case with another line at a place, counted from 1."""
+    return written(*lines[:at - 1], line, *lines[at:])
+
+
+def added(*lines):
+    return WHOLE + written(*lines)
+
+
+def number_cases():
+    """How a number is written, in a coefficient: the text, and the answer."""
+    for good in ("0", "7", "10", "-1", "-10", "2147483647", "-2147483648"):
+        yield swapped(6, f"T 1 0 {good}"), sheet(1, 0, 0, 0, 1, 0, 0, -1, int(good))
+    for bad in ("", "-", "+1", "+0", "00", "01", "-0", "-00", "-01", "--1", "1-", "1.0", "1e3", "0x1", "1_0", "a", "1a", "\r", "1\r", "\v1", "1\0",
+                "\u00b2", "\u0661", "\uff11", "\u22121", "2147483648", "-2147483649", "4294967296", "18446744073709551617",
+                "9" * 5000, "0" * 5000, "1" + "0" * 5000, "-1" + "0" * 5000):
+        yield swapped(6, f"T 1 0 {bad}"), refused(10, 6)
+    yield WHOLE.replace(b"-1", b" -1"), refused(10, 5)
+    yield WHOLE.replace(b"-1", b"-1 "), refused(10, 5)
+    yield WHOLE.replace(b"-1", b"\xb2"), refused(10, 5)
+    # only X, Y and a coefficient may be negative
+    for at, line in ((1, "D -1"), (2, "B 0 0 -1"), (3, "K -1"), (4, "M -1"), (5, "T -1 0 1"), (5, "T 0 -1 1")):
+        yield swapped(at, line), refused(10, at)
+    yield swapped(2, "B -1 -2 1"), sheet(1, -1, -2, 1, 1, 0, 0, -1, 1)
+
+
+def line_cases():
+    """Which line is bad: unended, missing, empty, in another order, with other fields."""
+    yield b"", refused(10, 1)
+    for at in range(1, 5):
+        yield written(*START[:at])[:-1], refused(10, at)
+        yield written(*START[:at]), refused(10, at + 1) if at < 4 else sheet(1, 0, 0, 0, 1, 0)
+        yield written(*START[:at - 1], "", *START[at - 1:]), refused(10, at)
+        yield written(*START[:at], *START[at - 1:]), refused(10, at + 1)
+        yield swapped(at, START[at - 1].lower()), refused(10, at)
+        yield swapped(at, START[at - 1] + " "), refused(10, at)
+        yield swapped(at, " " + START[at - 1]), refused(10, at)
+        yield swapped(at, START[at - 1].replace(" ", "  ", 1)), refused(10, at)
+        yield swapped(at, START[at - 1][:-2]), refused(10, at)
+        yield swapped(at, START[at - 1] + " 0"), refused(10, at)
+        yield swapped(at, START[at - 1][0] + START[at - 1]), refused(10, at)
+    yield written("B 0 0 0", "D 1", "K 1", "M 0"), refused(10, 1)
+    yield WHOLE[:-1], refused(10, 6)
+    yield added(""), refused(10, 7)
+    yield b"\n" * 9, refused(10, 1)
+    yield WHOLE.replace(b"\t", b" "), refused(10, 1)
+    yield WHOLE.replace(b"\n", b"\r\n"), refused(10, 1)
+    yield WHOLE.replace(b"\n", b"\r"), refused(10, 1)
+    yield b"\xef\xbb\xbf" + WHOLE, refused(10, 1)
+    yield added("M 0"), refused(10, 7)
+    yield WHOLE + b"\0", refused(10, 7)
+
+
+def term_cases():
+    """Terms: in any order, none twice, within the declared degree and 8."""
+    other = written(*START, "T 1 0 1", "T 0 1 -1")
+    yield other, sheet(1, 0, 0, 0, 1, 0, 0, -1, 1)
+    for again in ("T 0 1 -1", "T 0 1 5", "T 0 1 0", "T 1 0 1"):
+        yield added(again), refused(10, 7)
+    yield written(*START, "T 0 0 0", "T 0 0 0"), refused(10, 6)
+    yield added("T 1 1 1"), refused(10, 7)
+    yield added("T 0 2 0"), refused(10, 7)
+    yield added("T 2147483647 2147483647 0"), refused(10, 7)
+    yield added("T 0 0 3"), sheet(1, 0, 0, 0, 1, 0, 3, -1, 1)
+    yield swapped(1, "D 2"), sheet(2, 0, 0, 0, 1, 0, 0, -1, 0, 1)
+    yield swapped(1, "D 0"), refused(10, 5)
+    for d, (i, j), answer in ((9, (8, 1), 1), (9, (1, 8), 1), (9, (9, 0), 10), (9, (0, 9), 10), (9, (8, 2), 10), (15, (8, 8), 10), (16, (8, 8), 1),
+                              (20, (8, 8), 1), (20, (9, 9), 10), (MOST, (8, 8), 1), (MOST, (9, 0), 10), (MOST, (MOST, 0), 10)):
+        yield written(f"D {d}", *START[1:], f"T {i} {j} 1"), refused(answer, 5 if answer == 10 else 0)
+    yield written(f"D {MOST + 1}", *START[1:]), refused(10, 1)
+
+
+def order_cases():
+    """The refusals in their order, with line 0 but for 10."""
+    faults = [(1, "D 9"), (3, "K 8"), (4, "B 1048577 0 0"), (5, "M 2")]
+    place = {"D": 0, "B": 1, "K": 2, "M": 3}
+    for last in range(len(faults)):
+        lines = list(START)
+        for number, line in reversed(faults[:last + 1]):
+            lines[place[line[0]]] = line
+            yield written(*lines, "T 0 0 1"), refused(number)
+            yield written(*lines, "T 0 0"), refused(10, 5)
+    for line in ("B -1048577 0 0", "B 0 1048577 0", "B 0 -1048577 0", "B 0 0 11", f"B {MOST} {LEAST} {MOST}"):
+        yield swapped(2, line), refused(4)
+    yield swapped(2, "B 1048576 -1048576 10"), sheet(1, 1_048_576, -1_048_576, 10, 1, 0, 0, -1, 1)
+    # P10 and P12 of the page
+    yield written("D 8", "B 0 0 0", "K 6", "M 0", "T 0 0 63"), sheet(8, 0, 0, 0, 6, 0, 63)
+    yield written("D 8", "B 0 0 0", "K 6", "M 0", "T 0 0 64"), refused(6)
+    yield written("D 8", "B 0 0 0", "K 6", "M 2", "T 0 0 64"), refused(5)
+    yield written("D 8", "B 0 0 0", "K 7", "M 1"), sheet(8, 0, 0, 0, 7, 1)
+    yield written("D 8", "B 0 0 0", "K 7", "M 1", "T 8 0 -1"), refused(6)
+    # 11 comes first: the same line is bad in all three
+    for longer, answer in ((-1, refused(10, 7)), (0, refused(10, 7)), (1, refused(11))):
+        yield WHOLE + b"\n" * (LONGEST - len(WHOLE) + longer), answer
+    yield b"x" * LONGEST, refused(10, 1)
+    yield b"x" * (LONGEST + 1), refused(11)
+
+
+# a text, and what the listing program writes for it
+LISTINGS = [
+    (WHOLE, WHOLE_LISTING),
+    (b"", b"refused\t10\t1\n"),
+    (WHOLE[:-1], b"refused\t10\t6\n"),
+    (swapped(1, "D 9"), b"refused\t1\t0\n"),
+    (b"\n" * (LONGEST + 1), b"refused\t11\t0\n"),
+    # P6 and P7 of the page, P7's opposite, and a line that leaves a corner to each side
+    (written("D 0", "B 0 0 0", "K 0", "M 0"), b"0\t0\t0\t0\ntotal\t1\t1\n"),
+    (written("D 0", "B 0 0 0", "K 7", "M 0", "T 0 0 -5"), b"0\t0\t0\t-\ntotal\t1\t0\n"),
+    (written("D 0", "B 0 0 0", "K 7", "M 1", "T 0 0 5"), b"0\t0\t0\t+\ntotal\t1\t0\n"),
+    (written("D 1", "B -1 -1 1", "K 1", "M 1", "T 1 0 2", "T 0 1 2", "T 0 0 -1"), b"1\t0\t0\t-\n1\t1\t0\t0\n1\t0\t1\t0\n1\t1\t1\t0\ntotal\t5\t3\n"),
+]
+
+
+def main():
+    if len(sys.argv) == 2:
+        sys.stdout.buffer.write(listing_text(pathlib.Path(sys.argv[1]).read_bytes()))
+        return 0
+    checks = [(read, *case) for cases in (number_cases, line_cases, term_cases, order_cases) for case in cases()]
+    checks += [(read, WHOLE, sheet(1, 0, 0, 0, 1, 0, 0, -1, 1))] + [(listing_text, *case) for case in LISTINGS]
+    wrong = [(call, text, answer) for call, text, answer in checks if call(text) != answer]
+    for call, text, answer in wrong:
+        print(f"{call.__name__}({text[:200]!r}) answers {call(text)}, and the page says {answer}")
+    print(f"second program, texts: {len(checks) - len(wrong)} of {len(checks)} answers are as the page says")
+    return 1 if wrong else 0
+
+
+if __name__ == "__main__":
+    sys.exit(main())
