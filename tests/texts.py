@@ -1,0 +1,231 @@
+"""The proved reading of texts, and the listing program, agree with the second program.
+
+    python3 tests/texts.py [--seed S] [--cases N]     N random texts, beside those of known make
+    python3 tests/texts.py --only NUMBER              one text of that run again
+
+The program target/bin/texts is run once, on all texts of tests/text_cases.py. It is given for each text its length in 4 bytes and the text. It
+answers for each 53 words of 8 bytes, all little-endian: the number, the line, d, X, Y, s, k, the mode and the 45 coefficients; then in one more word
+the length of what the listing program writes for the text, and just that. Every answer is compared with that of tests/second_text.py; and where
+the number and the line are known from how a text was made, the second program is held to them. A run in which some refusal, some bad, missing or
+unended line, some length at the limit, some degree and depth or some mark at some level never came up fails, too.
+
+Then target/bin/listing itself is run: on the page's whole case, on input that comes in pieces, that is empty, far too long, or cannot be read, on a text
+of each kind, and on those of sheets/, whose stored listings it must write. Of these, tests/sheets.py checks that they are as sheets/README.md says.
+"""
+import argparse
+import collections
+import os
+import pathlib
+import struct
+import subprocess
+import sys
+import time
+
+sys.dont_write_bytecode = True  # nothing is left in the tree
+import second_text
+import sheets
+from cases import EDGE, LEAST31, MOST31
+from program import BUILT, ROOT, command, ended, number, settings, written_by
+from text_cases import CEILING, all_cases
+from second_text import LONGEST, PLACES, WHOLE, WHOLE_LISTING
+
+REFUSALS = (1, 3, 4, 5, 6, 10, 11)
+WORDS = 8 + PLACES + 1
+SHOWN = 5
+
+
+# ---- the program that answers many texts
+
+def given(texts):
+    return b"".join(struct.pack("<I", len(text)) + text for text in texts)
+
+
+def answers_in(output, count):
+    """The answers that were written: each as the second program gives it, with the bytes of the listing program."""
+    at = 0
+    for turn in range(count):
+        words = struct.unpack_from(f"<{WORDS}Q", output, at) if at + 8 * WORDS <= len(output) else None
+        if words is None or at + 8 * WORDS + words[-1] > len(output):
+            sys.exit(f"texts: {len(output)} bytes came, and they end within the answer to text {turn} of {count}")
+        at += 8 * WORDS
+        refusal, line, d, X, Y, s, k, mode, *coefficients, length = words
+        sheet = d, number(X, 64), number(Y, 64), s, k, mode, tuple(number(A, 64) for A in coefficients)
+        yield (refusal, line, *sheet), output[at:at + length]
+        at += length
+    if at != len(output):
+        sys.exit(f"texts: the answers to {count} texts have {at} bytes, and {len(output)} bytes came")
+
+
+def second_answer(text):
+    return second_text.read(text), second_text.listing_text(text)
+
+
+# ---- the comparison
+
+def shown(text):
+    return repr(text) if len(text) <= 300 else f"{text[:200]!r} and so on, {len(text)} bytes"
+
+
+def brief(mine, other):
+    """An answer in few words: of the bytes, the first line in which two differ."""
+    (*numbers, coefficients), written = mine
+    places = ", ".join(f"place {at} is {A}" for at, A in enumerate(coefficients) if A != other[0][-1][at])
+    pairs = enumerate(zip(written.split(b"\n") + [None], other[1].split(b"\n") + [None]), 1)
+    line = next((f"line {at} of the listing is {one!r}" for at, (one, two) in pairs if one != two), "the same listing")
+    return f"{(*numbers,)}, {places or 'the same places'}, {line}"
+
+
+def disagreements(cases, answers, expected):
+    wrong = [row for row in zip(range(len(cases)), cases, answers, expected) if row[2] != row[3]]
+    for at, case, got, wanted in wrong[:SHOWN]:
+        print(f"disagreement on --only {at}, {case.kind}: {shown(case.text)}")
+        print(f"    the proved program: {brief(got, wanted)}\n    the second program: {brief(wanted, got)}")
+    return len(wrong)
+
+
+def misjudged(cases, expected):
+    """The texts of which the second program does not answer what follows from how they were made."""
+    wrong = [(case, answer[:2]) for case, (answer, _) in zip(cases, expected)
+             if case.number not in (None, answer[0]) or case.line not in (None, answer[1])]
+    for case, answer in wrong[:SHOWN]:
+        print(f"{case.kind}, which gives {case.number} at line {case.line}: the second program answers {answer} on {shown(case.text)}")
+    return len(wrong)
+
+
+def met(text, answer, written):
+    """The things that a text shows, of those that every run must show."""
+    refusal, line, d, X, Y, s, k, mode, coefficients = answer
+    yield ("refused by", refusal) if refusal else ("accepted",)
+    yield "length", len(text), refusal
+    if refusal == 10:
+        yield "bad line", line
+        whole = text.count(b"\n")
+        if line == whole + 1:
+            yield "missing line" if text[-1:] in (b"", b"\n") else "unended line", line
+    if refusal == 0:
+        yield "degree and depth", d, k
+        yield "mode", mode
+        yield "terms named", text.count(b"\nT"), "of degree", d
+        yield from (("corner", corner) for corner in (X, Y))
+        yield from (("coefficient", A) for A in set(coefficients))
+        yield from (("level", int(fields[0]), "mark", fields[-1].decode()) for fields in (row.split(b"\t") for row in written.split(b"\n")[:-2]))
+
+
+def wanted():
+    yield ("accepted",)
+    yield from (("refused by", refusal) for refusal in REFUSALS)
+    # every line of a text with the 81 terms that a degree above 8 may have, and the one after them
+    yield from (("bad line", line) for line in range(1, 87))
+    yield from (("missing line", line) for line in range(1, 5))
+    yield from (("unended line", line) for line in range(1, 8))
+    yield from (("length", length, 10 if length <= LONGEST else 11) for length in (0, 1, LONGEST - 1, LONGEST, LONGEST + 1, 65_536, CEILING))
+    yield from (("degree and depth", d, k) for d in range(9) for k in range(8))
+    yield from (("terms named", count, "of degree", d) for d in range(9) for count in (0, (d + 1) * (d + 2) // 2))
+    yield from (("mode", mode) for mode in (0, 1))
+    yield from (("corner", corner) for corner in (-EDGE, EDGE))
+    yield from (("coefficient", A) for A in (LEAST31, MOST31))
+    yield from (("level", j, "mark", mark) for j in range(8) for mark in "0+-")
+
+
+def tally(cases, expected):
+    """Prints how often each refusal came up, and answers what never did."""
+    found = collections.Counter(thing for case, answer in zip(cases, expected) for thing in met(case.text, *answer))
+    print(f"read: {found['accepted',]} accepted, refused by " + ", ".join(f"{refusal}: {found['refused by', refusal]}" for refusal in REFUSALS))
+    return [" ".join(map(str, thing)) for thing in wanted() if not found[thing]]
+
+
+# ---- the listing program
+
+def fault_of(run, expected):
+    """What is wrong with a run that was given a text, or nothing. The page says nothing of a status; an accepted sheet ends well."""
+    if run.stdout != expected:
+        return f"writes {run.stdout[:200]!r}, and {expected[:200]!r} is right"
+    if run.stderr:
+        return f"writes to standard error: {run.stderr[:200]!r}"
+    if run.returncode != 0 and not expected.startswith(b"refused"):
+        return f"ends with status {run.returncode}"
+    return None
+
+
+def in_pieces(program, pieces):
+    """A run whose input comes piece by piece."""
+    started = subprocess.Popen(command(program), stdin=subprocess.PIPE, stdout=subprocess.PIPE, stderr=subprocess.PIPE, env=settings())
+    try:
+        for piece in pieces:
+            started.stdin.write(piece)
+            started.stdin.flush()
+            time.sleep(0.02)
+    except BrokenPipeError:  # it did not wait for all of it: what it wrote is judged
+        pass
+    out, err = started.communicate()
+    return subprocess.CompletedProcess(started.args, started.returncode, out, err)
+
+
+def unreadable(program):
+    """What is wrong where standard input is a folder, and where it is open for writing alone: nothing is to be written, and one line said."""
+    for name, path, way in (("a folder", ROOT, os.O_RDONLY), ("open for writing alone", os.devnull, os.O_WRONLY)):
+        stdin = os.open(path, way)
+        run = subprocess.run(command(program), stdin=stdin, capture_output=True, env=settings())
+        os.close(stdin)
+        said = run.stderr.count(b"\n") == 1 and run.stderr.endswith(b"\n") and len(run.stderr) > 1
+        yield f"standard input {name}", None if run.stdout == b"" and said else f"writes {run.stdout[:200]!r}, and to standard error {run.stderr[:200]!r}"
+
+
+def some(cases, expected):
+    """Of each kind of text one, and one of each refusal that the kind meets."""
+    taken = set()
+    for case, (answer, written) in zip(cases, expected):
+        if (case.kind, answer[0]) not in taken:
+            taken.add((case.kind, answer[0]))
+            yield case.kind, case.text, written
+
+
+def listing_runs(program, cases, expected):
+    """Runs of the listing program: what each is, and what is wrong with it, or nothing."""
+    yield "the whole case", fault_of(ended(program, WHOLE), WHOLE_LISTING)
+    yield "the whole case in pieces", fault_of(in_pieces(program, (WHOLE[:1], WHOLE[1:20], WHOLE[20:-1], WHOLE[-1:])), WHOLE_LISTING)
+    yield "the whole case unended", fault_of(ended(program, WHOLE[:-1]), b"refused\t10\t6\n")
+    yield "no input", fault_of(ended(program, b""), b"refused\t10\t1\n")
+    long = WHOLE + b"\n" * (LONGEST - len(WHOLE))
+    yield "the longest text", fault_of(ended(program, long), b"refused\t10\t7\n")
+    yield "the longest text in pieces", fault_of(in_pieces(program, (long[:-1], long[-1:])), b"refused\t10\t7\n")
+    yield "one byte more", fault_of(ended(program, long + b"\n"), b"refused\t11\t0\n")
+    yield "one byte more in pieces", fault_of(in_pieces(program, (long, b"\n")), b"refused\t11\t0\n")
+    yield "megabytes", fault_of(ended(program, WHOLE + b"T\t0\t0\t0\n" * 500_000), b"refused\t11\t0\n")
+    yield from unreadable(program)
+    for kind, text, written in some(cases, expected):
+        yield f"{kind}, {shown(text)}", fault_of(ended(program, text), written)
+    for name in sheets.names():
+        yield f"sheets/{name}.sheet", fault_of(ended(program, sheets.text(name)), (sheets.SHEETS / f"{name}.listing").read_bytes())
+
+
+def main():
+    options = argparse.ArgumentParser(description="Compares the proved reading of texts with the second program.")
+    options.add_argument("--seed", type=int, default=20250202)
+    options.add_argument("--cases", type=int, default=4000)
+    options.add_argument("--only", type=int)
+    options.add_argument("--program", type=pathlib.Path, default=BUILT / "texts")
+    options.add_argument("--listing", type=pathlib.Path, default=BUILT / "listing")
+    chosen = options.parse_args()
+    cases = all_cases(chosen.seed, chosen.cases)
+    if chosen.only is not None:
+        cases = cases[chosen.only:chosen.only + 1]
+    expected = [second_answer(case.text) for case in cases]
+    answers = list(answers_in(written_by(chosen.program, given(case.text for case in cases)), len(cases)))
+    wrong, other = disagreements(cases, answers, expected), misjudged(cases, expected)
+    missing, runs, faults = [], [], []
+    if chosen.only is None:
+        missing, faults = tally(cases, expected), list(sheets.faults())
+        if not chosen.listing.is_file():
+            sys.exit(f"texts: {chosen.listing} is not there: `rt check` proves and builds it")
+        runs = list(listing_runs(chosen.listing, cases, expected))
+    failed = [(name, fault) for name, fault in runs if fault]
+    for line in [f"never came up: {thing}" for thing in missing] + faults + [f"listing, {name}: {fault}" for name, fault in failed]:
+        print(line)
+    print(f"texts: seed {chosen.seed}, {len(cases) - wrong} of {len(cases)} answers agree, {len(runs) - len(failed)} of {len(runs)} runs of listing are right, "
+          f"{len(sheets.names())} sheets with {len(faults)} faults")
+    return 1 if wrong or other or missing or failed or faults else 0
+
+
+if __name__ == "__main__":
+    sys.exit(main())
