@@ -6,10 +6,10 @@ texts that are refused by each number, on what cannot be read, and without argum
 """
 import importlib.machinery
 import importlib.util
+import pathlib
 import subprocess
 import sys
 import tempfile
-import pathlib
 
 sys.dont_write_bytecode = True  # nothing is left in the tree
 import second
@@ -99,7 +99,8 @@ def command_checks():
         labels = [line[2 * 2 ** k + 5:] for line in picture[:2 ** k + 2]]
         _, visited, coloured, raster = second.raster(*sheets.sheet(name), [0] * 4 ** k)
         yield f"the picture of {name}", (status, err) == (0, "") and drawn == framed(raster, k)
-        yield f"the tally of {name}", {f"{name}.sheet", f"depth     {k}", f"visited   {visited} cells", f"coloured  {coloured} of {4 ** k:,} cells"} <= set(labels)
+        counts = {f"depth     {k}", f"visited   {visited} cells", f"coloured  {coloured} of {4 ** k:,} cells"}
+        yield f"the tally of {name}", counts | {f"{name}.sheet"} <= set(labels)
         yield f"the legend of {name}", picture[2 ** k + 2:] == ["", LEGEND, ""]
 
 

@@ -118,7 +118,7 @@ def lost_oval():
         yield "a plotter of corner signs colours a cell there, or none at all"
     if seen[q * 2 ** k + p] != 1:
         yield "the cell is not coloured"
-    times, cleared = 2 ** (FINER - k), {1: "above", -1: "below"}[-inside]
+    times, cleared = 2 ** (FINER - k), {1: "below", -1: "above"}.get(inside)
     ring = [(column, row) for column in range(p * times - 1, (p + 1) * times + 1) for row in range(q * times - 1, (q + 1) * times + 1)
             if column // times != p or row // times != q]
     if any(second.bounds(d, coefficients, X, Y, s, FINER, mode, FINER, *at)[:2] != (0, cleared) for at in ring):

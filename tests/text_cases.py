@@ -172,17 +172,17 @@ def fields(rng):
 
 def shapes(line):
     """A line with another letter, or with other fields."""
-    yield from ((b"another letter", [letter, *line[1:]]) for letter in OTHER_LETTERS if letter != line[0])
-    yield from ((b"one field more", line + [more]) for more in (b"", b"0", b"\r", b"#"))
-    yield from ((b"fields missing", line[:left]) for left in range(len(line)))
-    yield b"no letter", line[1:]
-    yield b"an empty field", [b"", *line]
-    yield b"an empty field", [line[0], b"", *line[1:]]
-    yield from ((b"another mark between fields", [mark.join(line)]) for mark in (b" ", b",", b"\x0b", b"\t\t", b"\t ", b" \t", b""))
-    yield b"another line end", [*line[:-1], line[-1] + b"\r"]
-    yield b"an empty line before it", [b"\n" + line[0], *line[1:]]
-    yield b"another line end", [b"\r" + line[0], *line[1:]]
-    yield b"a line of another form", line[:1] + [b"0"] * (5 - len(line))
+    yield from (("another letter", [letter, *line[1:]]) for letter in OTHER_LETTERS if letter != line[0])
+    yield from (("one field more", line + [more]) for more in (b"", b"0", b"\r", b"#"))
+    yield from (("fields missing", line[:left]) for left in range(len(line)))
+    yield "no letter", line[1:]
+    yield "an empty field", [b"", *line]
+    yield "an empty field", [line[0], b"", *line[1:]]
+    yield from (("another mark between fields", [mark.join(line)]) for mark in (b" ", b",", b"\x0b", b"\t\t", b"\t ", b" \t", b""))
+    yield "another line end", [*line[:-1], line[-1] + b"\r"]
+    yield "an empty line before it", [b"\n" + line[0], *line[1:]]
+    yield "another line end", [b"\r" + line[0], *line[1:]]
+    yield "a line of another form", line[:1] + [b"0"] * (5 - len(line))
 
 
 def shaped(rng):
@@ -190,7 +190,7 @@ def shaped(rng):
         for at, line in enumerate(rows):
             for kind, other in shapes(line):
                 if other != line:
-                    yield Case(kind.decode(), text_of([*rows[:at], other, *rows[at + 1:]]), 10, at + 1)
+                    yield Case(kind, text_of([*rows[:at], other, *rows[at + 1:]]), 10, at + 1)
 
 
 def cuts(text):
@@ -224,7 +224,7 @@ def terms(rng):
         head = [row("D", d), *(line.split(b"\t") for line in written(*START[1:]).split(b"\n")[:-1])]
         reach = [(i, j) for i in range(9) for j in range(9) if i + j <= d]
         rng.shuffle(reach)
-        whole = head + [row("T", i, j, 0) for i, j in reach]
+        whole = head + [row("T", i, j, rng.choice((0, 0, 1, -7))) for i, j in reach]
         yield Case("every term of a degree", text_of(whole), 1 if d > 8 else 0, 0)
         for at in range(len(whole)) if d in (8, 16) else ():
             yield Case("a bad line among many", text_of([*whole[:at], [*whole[at], b"0"], *whole[at + 1:]]), 10, at + 1)
@@ -234,7 +234,7 @@ def terms(rng):
             first = rng.randrange(5, len(whole) + 1)
             yield Case("a term twice", text_of([*whole[:first], row("T", *map(int, whole[first - 1][1:3]), A), *whole[first:]]), 10, first + 1)
         outside = {(d + 1 - i, i) for i in range(10) if d < 20} | {(9, 0), (0, 9), (9, 9), (8, 9), (256, 0), (0, MOST31), (MOST31, MOST31), (MOST31, 1)}
-        for i, j in outside - set(reach):
+        for i, j in sorted(outside - set(reach)):
             at = rng.randrange(4, len(whole) + 1)
             if min(i, j) >= 0:
                 yield Case("a term beyond", text_of([*whole[:at], row("T", i, j, rng.choice((0, 1))), *whole[at:]]), 10, at + 1)
@@ -321,8 +321,9 @@ def mixed(rng):
     digits = [b"%d" % n for n in (0, 0, 1, 1, 2, 3)]
     rows = [[b"D", field(b"2", b"4", b"8", b"9")], [b"B", field(b"-1", b"0", b"7"), field(b"-2", b"1", b"-1048577"), field(*digits)],
             [b"K", field(*digits[:5], b"8")], [b"M", field(b"0", b"1", b"1", b"2")]]
-    rows += [[rng.choice(LETTERS) if rng.random() < 0.02 else b"T", field(*digits), field(*digits), field(*digits, b"-5", b"2147483647", b"-2147483648")]
-             for _ in range(rng.randint(0, 4))]
+    for _ in range(rng.randint(0, 4)):
+        letter = rng.choice(LETTERS) if rng.random() < 0.02 else b"T"
+        rows.append([letter, field(*digits), field(*digits), field(*digits, b"-5", b"2147483647", b"-2147483648")])
     text = text_of(rows)
     return Case("mixed", text) if quick(text) else mixed(rng)
 

@@ -9,8 +9,8 @@ the length of what the listing program writes for the text, and just that. Every
 the number and the line are known from how a text was made, the second program is held to them. A run in which some refusal, some bad, missing or
 unended line, some length at the limit, some degree and depth or some mark at some level never came up fails, too.
 
-Then target/bin/listing itself is run: on the page's whole case, on input that comes in pieces, that is empty, far too long, or cannot be read, on a text
-of each kind, and on those of sheets/, whose stored listings it must write. Of these, tests/sheets.py checks that they are as sheets/README.md says.
+Then target/bin/listing itself is run: on the page's whole case, on input that comes in pieces, that is empty, far too long, or cannot be read, on
+a text of each kind, and on those of sheets/, whose stored listings it must write. That these are as sheets/README.md says is for tests/sheets.py.
 """
 import argparse
 import collections
@@ -167,8 +167,9 @@ def unreadable(program):
         stdin = os.open(path, way)
         run = subprocess.run(command(program), stdin=stdin, capture_output=True, env=settings())
         os.close(stdin)
-        said = run.stderr.count(b"\n") == 1 and run.stderr.endswith(b"\n") and len(run.stderr) > 1
-        yield f"standard input {name}", None if run.stdout == b"" and said else f"writes {run.stdout[:200]!r}, and to standard error {run.stderr[:200]!r}"
+        one_line = run.stderr.count(b"\n") == 1 and run.stderr.endswith(b"\n") and len(run.stderr) > 1
+        wrong = None if run.stdout == b"" and one_line else f"writes {run.stdout[:200]!r}, and to standard error {run.stderr[:200]!r}"
+        yield f"standard input {name}", wrong
 
 
 def some(cases, expected):
@@ -222,8 +223,8 @@ def main():
     failed = [(name, fault) for name, fault in runs if fault]
     for line in [f"never came up: {thing}" for thing in missing] + faults + [f"listing, {name}: {fault}" for name, fault in failed]:
         print(line)
-    print(f"texts: seed {chosen.seed}, {len(cases) - wrong} of {len(cases)} answers agree, {len(runs) - len(failed)} of {len(runs)} runs of listing are right, "
-          f"{len(sheets.names())} sheets with {len(faults)} faults")
+    print(f"texts: seed {chosen.seed}, {len(cases) - wrong} of {len(cases)} answers agree, "
+          f"{len(runs) - len(failed)} of {len(runs)} runs of listing are right, {len(sheets.names())} sheets with {len(faults)} faults")
     return 1 if wrong or other or missing or failed or faults else 0
 
 
