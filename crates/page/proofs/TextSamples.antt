@@ -1,6 +1,5 @@
 -- Texts read and written by the definitions, computed: the page's whole case, and what is good and what is bad in a line.
 use mathlib.Core.Path.{_≡_, refl}
-use mathlib.Core.Bool.{Bool, true, false}
 use mathlib.Core.List.{List, [], _∷_, flatMap}
 use Prim.Native.Nat.{ℕ}
 use lib.IntN.{pos, negsuc, pow, one}
@@ -14,8 +13,8 @@ use Rattle.page.specs.LocalForm.{G}
 use Rattle.page.specs.Bounds.{lower, upper}
 use Rattle.page.specs.Weight.{weight}
 use Rattle.page.specs.Refusals.{table, first}
-use Rattle.page.specs.SheetText.{lines, fields, all-digits, amount, signed, unsigned, Numbers, bad, good, numbers, Text, bad-line, terms-from, text-of, in-order, Outcome, refused, outcome}
-use Rattle.page.specs.ListingText.{digits-within, decimal, record-line, total-line, refused-line, listing-text, written-text}
+use Rattle.page.specs.SheetText.{lines, fields, all-digits, amount, signed, unsigned, bad, good, numbers, terms-from, text-of, in-order, refused, outcome}
+use Rattle.page.specs.ListingText.{digits-within, decimal, record-line, total-line, listing-text, written-text}
 
 -- ---- the whole case
 abbrev whole-in : List ℕ

@@ -6,7 +6,7 @@ use lib.Dec.{ltb, eqb}
 use Rattle.verdicts.specs.Walking.{Verdicts, Cell, colour-of, those, is-listed, walking-order, visited, coloured}
 use Rattle.page.specs.Sheet.{mode-of}
 use Rattle.page.specs.Bounds.{verdict}
-use Rattle.page.specs.SheetText.{Said, sheet-in, Outcome, refused, accepted, outcome}
+use Rattle.page.specs.SheetText.{sheet-in, Outcome, refused, accepted, outcome}
 
 -- ---- a number in decimal, no leading zero: n has at most n + 1 digits
 unfoldable pub digits-within : ℕ → ℕ → List ℕ

@@ -1,8 +1,8 @@
 -- The first four lines of a text, one after the other.
 use mathlib.Core.Path.{_≡_, sym, _∙_, subst}
-use mathlib.Core.Bool.{Bool, true, false, cond}
+use mathlib.Core.Bool.{Bool, true, false}
 use mathlib.Core.List.{List, [], _∷_}
-use Prim.Native.Nat.{ℕ, suc, _≤_}
+use Prim.Native.Nat.{ℕ, suc}
 use native.Mathlib.Omega.{arith}
 use borrow.Author.Tests.{ne-eqb}
 use lib.Dec.{eqb}
@@ -12,7 +12,7 @@ use lib.Seq.{getD-take}
 use Rattle.page.specs.SheetText.{signed, unsigned, Line, lines, number-at, whole-at, Text, bad-line, line-then, terms-from, text-of}
 use Rattle.reading.specs.declared.Taken.{Taken}
 use Rattle.reading.specs.declared.Head.{Head}
-use Rattle.reading.specs.Steps.{LineTaken, head-by, said-by, HeadRead}
+use Rattle.reading.specs.Steps.{LineTaken, head-by, HeadRead}
 
 -- ---- a line that is taken is good or bad
 module _ {text : List ℕ} {at letter n : ℕ} {signs : List Bool} {r : Taken} (t : LineTaken text at letter n signs r) (number : ℕ) (rest : List ℤ → List Line → Text) where

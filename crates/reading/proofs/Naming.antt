@@ -1,5 +1,5 @@
 -- The lines after the fourth: each names a term, and the tables hold those named so far.
-use mathlib.Core.Path.{_≡_, refl, sym, _∙_, ap, subst}
+use mathlib.Core.Path.{_≡_, refl, sym, _∙_, ap}
 use mathlib.Core.Bool.{Bool, true, false, cond}
 use mathlib.Core.List.{List, [], _∷_}
 use Prim.Native.Nat.{ℕ, suc, _+_, _≤_, _<_}
@@ -7,12 +7,12 @@ use native.Mathlib.Nat as Nat
 use native.Mathlib.Omega.{arith}
 use borrow.Author.Tests.{eq-eqb, ne-eqb}
 use lib.Dec.{eqb}
-use lib.IntN.{ℤ, pos}
+use lib.IntN.{ℤ}
 use lib.ListN.{length, getD, set, take, drop, length-set}
 use lib.Seq.{drop-cons, drop-length, take-all}
-use Rattle.page.specs.SheetText.{signed, unsigned, Line, before-line, lines, Term, term-of, is-new, coefficient-of, Said, Text, bad-line, well-formed, with-terms, line-then, terms-from}
+use Rattle.page.specs.SheetText.{signed, unsigned, Line, before-line, lines, Term, term-of, is-new, Said, Text, bad-line, with-terms, line-then, terms-from}
 use Rattle.reading.specs.declared.Taken.{Taken}
-use Rattle.reading.specs.Steps.{LineTaken, place-of, admitted, Enters, EntersTerm, Tables, TermTaken, TermsRead}
+use Rattle.reading.specs.Steps.{LineTaken, place-of, EntersTerm, Tables, TermTaken, TermsRead}
 use Rattle.reading.proofs.Heads.{line-bad, line-good}
 use Rattle.reading.proofs.Tables.{enter-new, enter-kept, admits}
 

@@ -7,7 +7,7 @@ use native.Mathlib.Nat as Nat
 use native.Mathlib.Numerals.{add-one}
 use native.Mathlib.Omega.{arith}
 use borrow.Rule.Slice.PartAt.{part-to-end}
-use borrow.Author.Tests.{ltb-true, ltb-false, lt-ltb, le-ltb, le-leb, lt-leb, leb-true, leb-false, eq-eqb, ne-eqb}
+use borrow.Author.Tests.{ltb-true, ltb-false, lt-ltb, le-ltb, leb-true, leb-false, eq-eqb, ne-eqb}
 use mir.Syntax.{w32}
 use mir.Val.{toZ, ofZ}
 use mir.Facts.{toZ-neg, toZ-ofZ}
@@ -15,9 +15,9 @@ use lib.Dec.{leb, ltb, eqb}
 use lib.IntN.{ℤ, pos, negsuc, negℤ, natAbs}
 use lib.ListN.{length, getD, take, drop}
 use lib.Seq.{drop-cons, drop-length}
-use lib.Signed.{ltZ, mag}
+use lib.Signed.{mag}
 use Rattle.algebra.proofs.Choice.{and-left, and-right}
-use Rattle.page.specs.SheetText.{is-digit, all-digits, is-empty, is-decimal, amount, is-minus, without-sign, is-zero, is-written, worth, is-within}
+use Rattle.page.specs.SheetText.{is-digit, all-digits, is-empty, is-decimal, amount, is-minus, without-sign, is-within}
 use Rattle.reading.specs.declared.Number.the-variants as Number
 use Rattle.reading.specs.Steps.{number-in, signless-in, minus-in}
 

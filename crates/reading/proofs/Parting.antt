@@ -1,10 +1,9 @@
 -- Lines and fields, cut off one after the other: at the first LF, and at the first tab.
 use mathlib.Core.Path.{_≡_, refl, sym, _∙_, ap}
-use mathlib.Core.Bool.{Bool, true, false, _&&_, cond}
-use mathlib.Core.List.{List, [], _∷_, _++_}
-use Prim.Native.Nat.{ℕ, zero, suc, _+_, _-_, _≤_, _<_}
+use mathlib.Core.Bool.{Bool, true, false, cond}
+use mathlib.Core.List.{List, [], _∷_}
+use Prim.Native.Nat.{ℕ, suc, _+_, _-_, _≤_, _<_}
 use native.Mathlib.Nat as Nat
-use native.Mathlib.Numerals.{add-one}
 use native.Mathlib.Omega.{arith}
 use borrow.Author.Tests.{ltb-true, ltb-false}
 use lib.Dec.{ltb, eqb}
@@ -12,10 +11,9 @@ use lib.IntN.{ℤ}
 use lib.ListN.{length, take, drop, length-drop}
 use lib.Seq.{take-all, take-length, drop-drop}
 use Rattle.bytes.specs.Bytes.{indexOf, indexAfter, slice}
-use Rattle.page.specs.SheetText.{Line, ended-line, before-line, lines, before-field, fields, is-written, is-within, worth, Numbers, bad, good, with-first, numbers, after-letter, line-numbers, Text, bad-line, with-line, line-then}
-use Rattle.reading.specs.declared.Number.{Number}
+use Rattle.page.specs.SheetText.{Line, ended-line, before-line, lines, before-field, fields, Text, bad-line, line-then}
 use Rattle.reading.specs.declared.Number.the-variants as Number
-use Rattle.reading.specs.Steps.{number-in, fields-after, numbers-told}
+use Rattle.reading.specs.Steps.{fields-after}
 
 -- ---- the place of the first byte c
 index-here : (c x : ℕ) (l : List ℕ) → eqb x c ≡ true → indexOf c (x ∷ l) ≡ 0

@@ -7,7 +7,7 @@ use native.Mathlib.Omega.{arith}
 use lib.Dec.{T}
 use lib.IntN.{ℤ}
 use lib.ListN.{length, take, drop}
-use Rattle.page.specs.SheetText.{Line, lines, fields, bad, good, after-letter, Text, bad-line, with-line, line-then}
+use Rattle.page.specs.SheetText.{lines, fields, good, after-letter, Text, bad-line, with-line, line-then}
 use Rattle.reading.specs.Steps.{numbers-told, LineTaken}
 use Rattle.reading.proofs.Parting.{Finds, next-line, no-line}
 

@@ -4,64 +4,45 @@ use Rattle.reading.proofs.Promises.{too-long, bad-opening, bad-term, we
 use borrow.Author.Needs.{needs}
 use Rattle.reading.proofs.read.Statement.{statement}
 use Rattle.reading.proofs.read.Tie as tie
-use Rattle.reading.proofs.read.Reads as reads
-use Rattle.reading.proofs.read.Lts as lts
-use Rattle.reading.proofs.opening.read_head.Reads as read-head-reads
-use Rattle.reading.proofs.sheet.judged.Reads as judged-reads
-use Rattle.reading.proofs.sheet.refused.Reads as refused-reads
-use Rattle.reading.proofs.terms.read_terms.Reads as read-terms-reads
 
--- src/lib.rt:66:9
 refused-requires : tie.Need-refused-requires
 refused-requires c κs = search needs
 
--- src/lib.rt:66:9
 returns : tie.Need-returns
 returns c = too-long _ (c .before .if1 .taken) (c .refused .ensures)
 
--- src/lib.rt:68:9
 read-head-requires : tie.Need-read-head-requires
 read-head-requires c κs = search needs
 
--- src/lib.rt:70:9
 refused-requires-2 : tie.Need-refused-requires-2
 refused-requires-2 c κs = search needs
 
--- src/lib.rt:70:9
 returns-2 : tie.Need-returns-2
 returns-2 c = let h = c .before .before .before in bad-opening _ (h .before .if1 .left) (h .read-head .ensures) (c .before .if2 .taken) (c .refused2 .ensures)
 
--- src/lib.rt:74:58
 slice-aggregate-read-terms : tie.Need-slice-aggregate-read-terms
 slice-aggregate-read-terms c = search needs
 
--- src/lib.rt:74:71
 slice-aggregate-read-terms-2 : tie.Need-slice-aggregate-read-terms-2
 slice-aggregate-read-terms-2 c = search needs
 
--- src/lib.rt:74:9
 read-terms-requires : tie.Need-read-terms-requires
 read-terms-requires c κs = let h = c .before .before .before .before in (h .read-head .ensures .within, h .before .if1 .left, no-terms)
 
--- src/lib.rt:76:9
 refused-requires-3 : tie.Need-refused-requires-3
 refused-requires-3 c κs = search needs
 
--- src/lib.rt:76:9
 returns-3 : tie.Need-returns-3
 returns-3 c =
     let t = c .before .before .before .before in let e = t .before .before .before in let h = e .before .before in
     bad-term _ (h .before .if1 .left) (h .read-head .ensures) (e .if2 .left) (t .read-terms .ensures) (c .before .if3 .taken) (c .refused3 .ensures)
 
--- src/lib.rt:78:25
 slice-aggregate-judged : tie.Need-slice-aggregate-judged
 slice-aggregate-judged c = search needs
 
--- src/lib.rt:78:5
 judged-requires : tie.Need-judged-requires
 judged-requires c κs = search needs
 
--- src/lib.rt:62:1
 returns-4 : tie.Need-returns-4
 returns-4 c =
     let t = c .before .before .before .before .before in let e = t .before .before .before in let h = e .before .before in

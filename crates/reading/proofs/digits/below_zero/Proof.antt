@@ -7,30 +7,22 @@ use Rattle.reading.proofs.Numerals.{turned}
 use borrow.Author.Needs.{needs}
 use Rattle.reading.proofs.digits.below_zero.Statement.{statement}
 use Rattle.reading.proofs.digits.below_zero.Tie as tie
-use Rattle.reading.proofs.digits.below_zero.Reads as reads
-use Rattle.reading.proofs.digits.below_zero.Lts as lts
 
--- src/digits.rt:103:9
 returns : tie.Need-returns
 returns c = rw (eq-eqb (c .before .args .n) 0 (c .if1 .taken))
 
--- src/digits.rt:106:9
 returns-2 : tie.Need-returns-2
 returns-2 c = let s = c .before .before in rw (ne-eqb (s .args .n) 0 (c .before .if1 .left), not-true (s .args .negative) (c .if2 .taken))
 
--- src/digits.rt:109:9
 returns-3 : tie.Need-returns-3
 returns-3 c = let s = c .before .before .before in rw (ne-eqb (s .args .n) 0 (c .before .before .if1 .left), not-false (s .args .negative) (c .before .if2 .left), lt-ltb 2147483648 (s .args .n) (c .if3 .taken))
 
--- src/digits.rt:111:22
 sub-t4 : tie.Need-sub-t4
 sub-t4 c = search needs
 
--- src/digits.rt:111:21
 cast-t5 : tie.Need-cast-t5
 cast-t5 c = search needs
 
--- src/digits.rt:99:1
 returns-4 : tie.Need-returns-4
 returns-4 c = let s = c .before .before .before in rw (ne-eqb (s .args .n) 0 (c .before .before .if1 .left), not-false (s .args .negative) (c .before .if2 .left), le-ltb 2147483648 (s .args .n) (c .if3 .left)) (ap Whole (turned (s .args .n) (omega (arith, c .before .before .if1 .left)) (omega arith)))
 

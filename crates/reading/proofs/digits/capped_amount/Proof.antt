@@ -7,10 +7,6 @@ use lib.ListN.{length}
 use Rattle.reading.proofs.Numerals.{Adding, adding-digit, adding-next, adding-end}
 use Rattle.reading.proofs.digits.capped_amount.Statement.{statement}
 use Rattle.reading.proofs.digits.capped_amount.Tie as tie
-use Rattle.reading.proofs.digits.capped_amount.Reads as reads
-use Rattle.reading.proofs.digits.capped_amount.Lts as lts
-use Rattle.reading.proofs.digits.capped.Reads as capped-reads
-use Rattle.reading.proofs.digits.wide.Reads as wide-reads
 
 abbrev Inv-loop : tie.InvT-loop
 Inv-loop digits n₀ i₀ n i = Adding digits n i
@@ -18,47 +14,36 @@ Inv-loop digits n₀ i₀ n i = Adding digits n i
 abbrev μ-loop : tie.MeasureT-loop
 μ-loop digits n₀ i₀ n i = length digits - i
 
--- src/digits.rt:71:5
 loop-holds : tie.Need-loop-holds Inv-loop μ-loop
 loop-holds c = (omega arith, omega arith, c .before .pre, refl)
 
--- src/digits.rt:72:20
 mul-capped : tie.Need-mul-capped Inv-loop μ-loop
 mul-capped c = omega arith
 
--- src/digits.rt:72:35
 shared-slice-read-wide : tie.Need-shared-slice-read-wide Inv-loop μ-loop
 shared-slice-read-wide c = omega arith
 
--- src/digits.rt:72:30
 wide-requires : tie.Need-wide-requires Inv-loop μ-loop
 wide-requires c κs = tt
 
--- src/digits.rt:72:30
 sub-capped : tie.Need-sub-capped Inv-loop μ-loop
 sub-capped c = let s = c .before .before .before in let d = adding-digit _ (s .loop .n) (s .loop .i) (s .loop .inv) (omega arith) in let w = c .wide .ensures in omega (arith, d .0)
 
--- src/digits.rt:72:20
 add-capped : tie.Need-add-capped Inv-loop μ-loop
 add-capped c = let s = c .before .before .before in let d = adding-digit _ (s .loop .n) (s .loop .i) (s .loop .inv) (omega arith) in let w = c .wide .ensures in omega (arith, d .1)
 
--- src/digits.rt:72:9
 capped-requires : tie.Need-capped-requires Inv-loop μ-loop
 capped-requires c κs = tt
 
--- src/digits.rt:73:9
 add-i : tie.Need-add-i Inv-loop μ-loop
 add-i c = search needs
 
--- src/digits.rt:71:5
 loop-less : tie.Need-loop-less Inv-loop μ-loop
 loop-less c = omega arith
 
--- src/digits.rt:71:5
 loop-again : tie.Need-loop-again Inv-loop μ-loop
 loop-again c = let s = c .before .before .before .before in adding-next _ (s .loop .n) (s .loop .i) (s .loop .inv) (omega arith) (c .capped .ensures ∙ ap (λ b. min (10 * s .loop .n + (b - 48)) (2 ^ 32)) (c .before .wide .ensures))
 
--- src/digits.rt:65:1
 returns : tie.Need-returns Inv-loop μ-loop
 returns c = adding-end _ (c .before .loop .n) (c .before .loop .i) (c .before .loop .inv) (omega arith)
 

@@ -1,32 +1,24 @@
+-- `reading::digits::decimal` meets its contract, by the tests.
 use mathlib.Core.Path.{_∙_}
 use mathlib.Core.Logic.{inl, inr}
 use native.Mathlib.Omega.{arith}
--- `reading::digits::decimal` meets its contract, by the tests.
 use Rattle.reading.proofs.Numerals.{no-digits, leading-zero, no-leading-zero}
 use borrow.Author.Needs.{needs}
 use Rattle.reading.proofs.digits.decimal.Statement.{statement}
 use Rattle.reading.proofs.digits.decimal.Tie as tie
-use Rattle.reading.proofs.digits.decimal.Reads as reads
-use Rattle.reading.proofs.digits.decimal.Lts as lts
-use Rattle.reading.proofs.digits.digits_only.Reads as digits-only-reads
 
--- src/digits.rt:47:9
 returns : tie.Need-returns
 returns c = no-digits (c .before .before .args .digits .now) (c .if1 .taken)
 
--- src/digits.rt:50:12
 shared-slice-read-if3 : tie.Need-shared-slice-read-if3
 shared-slice-read-if3 c = search needs
 
--- src/digits.rt:51:13
 returns-2 : tie.Need-returns-2
 returns-2 c = leading-zero (c .before .before .before .before .before .args .digits .now) (c .before .before .if2 .taken) (c .if3 .taken)
 
--- src/digits.rt:54:5
 digits-only-requires : tie.Need-digits-only-requires
 digits-only-requires c κs = search needs
 
--- src/digits.rt:42:1
 returns-3 : tie.Need-returns-3
 returns-3 c = let s = c .before .before .before .before in c .digits-only .ensures ∙ no-leading-zero (s .args .digits .now) (c .before .before .if1 .left) (λ g z. elim (c .before .if2 .came) [ inl h ↦ h .2 .left z | inr h ↦ absurd (omega (arith, h .left)) ])
 

@@ -2,7 +2,7 @@
 use native.Mathlib.Omega.{arith}
 use borrow.Author.Needs.{needs}
 use borrow.Author.Tests.{not-true, not-false}
-use mathlib.Core.Path.{refl, sym, _∙_}
+use mathlib.Core.Path.{refl}
 use Rattle.reading.proofs.Numerals.{all-found, all-next, all-end}
 use mathlib.Core.Path.{_≡_}
 use Prim.Native.Nat.{_≤_, _-_}
@@ -10,9 +10,6 @@ use lib.ListN.{length, drop}
 use Rattle.page.specs.SheetText.{all-digits}
 use Rattle.reading.proofs.digits.digits_only.Statement.{statement}
 use Rattle.reading.proofs.digits.digits_only.Tie as tie
-use Rattle.reading.proofs.digits.digits_only.Reads as reads
-use Rattle.reading.proofs.digits.digits_only.Lts as lts
-use Rattle.reading.proofs.digits.digit.Reads as digit-reads
 
 abbrev Inv-loop : tie.InvT-loop
 Inv-loop digits i₀ i = (i ≤ length digits) × (all-digits digits ≡ all-digits (drop i digits))
@@ -20,35 +17,27 @@ Inv-loop digits i₀ i = (i ≤ length digits) × (all-digits digits ≡ all-dig
 abbrev μ-loop : tie.MeasureT-loop
 μ-loop digits i₀ i = length digits - i
 
--- src/digits.rt:32:5
 loop-holds : tie.Need-loop-holds Inv-loop μ-loop
 loop-holds c = (omega arith, refl)
 
--- src/digits.rt:33:19
 shared-slice-read-digit : tie.Need-shared-slice-read-digit Inv-loop μ-loop
 shared-slice-read-digit c = omega arith
 
--- src/digits.rt:33:13
 digit-requires : tie.Need-digit-requires Inv-loop μ-loop
 digit-requires c κs = tt
 
--- src/digits.rt:34:13
 returns : tie.Need-returns Inv-loop μ-loop
 returns c = let s = c .before .before .before .before in all-found _ (s .loop .i) (s .loop .inv .1) (omega arith) (c .before .digit .ensures) (not-true _ (c .if1 .taken))
 
--- src/digits.rt:36:9
 add-i : tie.Need-add-i Inv-loop μ-loop
 add-i c = search needs
 
--- src/digits.rt:32:5
 loop-less : tie.Need-loop-less Inv-loop μ-loop
 loop-less c = omega arith
 
--- src/digits.rt:32:5
 loop-again : tie.Need-loop-again Inv-loop μ-loop
 loop-again c = let s = c .before .before .before .before in (omega arith, all-next _ (s .loop .i) (s .loop .inv .1) (omega arith) (c .before .digit .ensures) (not-false _ (c .if1 .left)))
 
--- src/digits.rt:28:1
 returns-2 : tie.Need-returns-2 Inv-loop μ-loop
 returns-2 c = all-end _ (c .before .loop .i) (c .before .loop .inv .1) (omega arith)
 

@@ -3,18 +3,13 @@ use Rattle.reading.proofs.Numerals.{no-minus, is-first}
 use borrow.Author.Needs.{needs}
 use Rattle.reading.proofs.digits.minus.Statement.{statement}
 use Rattle.reading.proofs.digits.minus.Tie as tie
-use Rattle.reading.proofs.digits.minus.Reads as reads
-use Rattle.reading.proofs.digits.minus.Lts as lts
 
--- src/digits.rt:83:9
 returns : tie.Need-returns
 returns c = no-minus (c .before .args .field .now) (c .if1 .taken)
 
--- src/digits.rt:85:5
 shared-slice-read-result : tie.Need-shared-slice-read-result
 shared-slice-read-result c = search needs
 
--- src/digits.rt:79:1
 returns-2 : tie.Need-returns-2
 returns-2 c = is-first (c .before .before .args .field .now) (c .before .if1 .left)
 

@@ -5,14 +5,6 @@ use Rattle.reading.proofs.Numerals.{Split, split-fits, split-none, spli
 use borrow.Author.Needs.{needs}
 use Rattle.reading.proofs.digits.number.Statement.{statement}
 use Rattle.reading.proofs.digits.number.Tie as tie
-use Rattle.reading.proofs.digits.number.Reads as reads
-use Rattle.reading.proofs.digits.number.Lts as lts
-use Rattle.reading.proofs.digits.below_zero.Reads as below-zero-reads
-use Rattle.reading.proofs.digits.capped_amount.Reads as capped-amount-reads
-use Rattle.reading.proofs.digits.decimal.Reads as decimal-reads
-use Rattle.reading.proofs.digits.minus.Reads as minus-reads
-use Rattle.reading.proofs.digits.signless.Reads as signless-reads
-use Rattle.reading.proofs.digits.start.Reads as start-reads
 
 split : (c : tie.After-start) → Split (c .before .before .before .args .field .now) (c .before .minus .result) (c .start .result)
 split c = record { sign = c .before .minus .ensures; start = c .start .ensures }
@@ -20,49 +12,38 @@ split c = record { sign = c .before .minus .ensures; start = c .start .ensures }
 minus-requires : tie.Need-minus-requires
 minus-requires c κs = search needs
 
--- src/digits.rt:125:9
 start-requires : tie.Need-start-requires
 start-requires c κs = search needs
 
--- src/digits.rt:126:18
 sub-digits : tie.Need-sub-digits
 sub-digits c = let s = c .before .before .before in split-fits (s .args .field .now) (c .before .minus .result) (c .start .result) (split c)
 
--- src/digits.rt:126:18
 part-digits-start : tie.Need-part-digits-start
 part-digits-start c = let s = c .before .before .before in split-fits (s .args .field .now) (c .before .minus .result) (c .start .result) (split c)
 
--- src/digits.rt:126:18
 part-digits-end : tie.Need-part-digits-end
 part-digits-end c = search needs
 
--- src/digits.rt:127:9
 decimal-requires : tie.Need-decimal-requires
 decimal-requires c κs = search needs
 
--- src/digits.rt:128:9
 returns : tie.Need-returns
 returns c = let a = c .before .before .before in split-none _ _ _ _ (split a) (c .before .decimal .ensures) (not-true _ (c .if1 .taken))
 
--- src/digits.rt:130:9
 capped-amount-requires : tie.Need-capped-amount-requires
 capped-amount-requires c κs = let a = c .before .before .before in split-all (a .before .before .before .args .negative) _ _ _ (split a) (c .before .decimal .ensures) (not-false _ (c .if1 .left))
 
--- src/digits.rt:132:9
 below-zero-requires : tie.Need-below-zero-requires
 below-zero-requires c κs = search needs
 
--- src/digits.rt:132:9
 returns-2 : tie.Need-returns-2
 returns-2 c =
     let b = c .before .before .before in let a = b .before .before .before in
     c .below-zero .ensures ∙ split-minus _ _ _ _ (split a) (b .before .decimal .ensures) (not-false _ (b .if1 .left)) (c .before .before .capped-amount .ensures) (c .before .if2 .taken)
 
--- src/digits.rt:134:5
 signless-requires : tie.Need-signless-requires
 signless-requires c κs = search needs
 
--- src/digits.rt:121:1
 returns-3 : tie.Need-returns-3
 returns-3 c =
     let b = c .before .before .before in let a = b .before .before .before in

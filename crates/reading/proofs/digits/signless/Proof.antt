@@ -6,18 +6,13 @@ use borrow.Author.Tests.{lt-ltb, le-ltb}
 use borrow.Author.Needs.{needs}
 use Rattle.reading.proofs.digits.signless.Statement.{statement}
 use Rattle.reading.proofs.digits.signless.Tie as tie
-use Rattle.reading.proofs.digits.signless.Reads as reads
-use Rattle.reading.proofs.digits.signless.Lts as lts
 
--- src/digits.rt:93:9
 returns : tie.Need-returns
 returns c = rw (lt-ltb 2147483647 (c .before .args .n) (c .if1 .taken))
 
--- src/digits.rt:95:19
 cast-t3 : tie.Need-cast-t3
 cast-t3 c = search needs
 
--- src/digits.rt:89:1
 returns-2 : tie.Need-returns-2
 returns-2 c = let n = c .before .args .n in rw (le-ltb 2147483647 n (c .if1 .left), toZ-pos w32 {n = n} (omega arith))
 

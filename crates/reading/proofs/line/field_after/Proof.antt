@@ -11,10 +11,6 @@ use Rattle.reading.proofs.Counting.{no-field, field-of, field-read}
 use borrow.Author.Needs.{needs}
 use Rattle.reading.proofs.line.field_after.Statement.{statement}
 use Rattle.reading.proofs.line.field_after.Tie as tie
-use Rattle.reading.proofs.line.field_after.Reads as reads
-use Rattle.reading.proofs.line.field_after.Lts as lts
-use Rattle.bytes.proofs.scan.find.Reads as find-reads
-use Rattle.reading.proofs.digits.number.Reads as number-reads
 
 -- what the field holds decides
 read : (a : tie.After-number) → let s = a .before .before .before .before .before in FieldRead (s .args .line .now) (s .args .at) (s .args .negative) (field-of (a .number .result) (a .before .before .find .result))
@@ -26,57 +22,44 @@ settled : (a : tie.After-number) {r : Field} → field-of (a .number .result) (a
     → let s = a .before .before .before .before .before in FieldRead (s .args .line .now) (s .args .at) (s .args .negative) r
 settled a e = let s = a .before .before .before .before .before in subst (FieldRead (s .args .line .now) (s .args .at) (s .args .negative)) e (read a)
 
--- src/line.rt:35:9
 returns : tie.Need-returns
 returns c = let s = c .before .before in no-field (s .args .line .now) (s .args .at) (s .args .negative) (c .if1 .taken)
 
--- src/line.rt:37:16
 add-from : tie.Need-add-from
 add-from c = search needs
 
--- src/line.rt:38:9
 find-requires : tie.Need-find-requires
 find-requires c κs = search needs
 
--- src/line.rt:39:18
 sub-number : tie.Need-sub-number
 sub-number c = search needs
 
--- src/line.rt:39:18
 part-number-start : tie.Need-part-number-start
 part-number-start c = search needs
 
--- src/line.rt:39:18
 part-number-end : tie.Need-part-number-end
 part-number-end c = search needs
 
--- src/line.rt:39:11
 number-requires : tie.Need-number-requires
 number-requires c κs = search needs
 
--- src/line.rt:40:23
 enum-known-value : tie.Need-enum-known-value
 enum-known-value c = search needs
 
--- src/line.rt:41:28
 enum-told : tie.Need-enum-told
 enum-told c = search needs
 
--- src/line.rt:42:30
 enum-told-2 : tie.Need-enum-told-2
 enum-told-2 c = search needs
 
--- src/line.rt:29:1
 returns-2 : tie.Need-returns-2
 returns-2 c =
     let end = c .before .before .before .before .before .find .result in
     settled (c .before .before .before) (ap (λ n. field-of n end) (c .before .value .given .1) ∙ ap (λ z. Whole z end) (sym (read32 _ (c .known-told .given .0 .1))))
 
--- src/line.rt:29:1
 returns-3 : tie.Need-returns-3
 returns-3 c = settled (c .before .before) (ap (λ n. field-of n (c .before .before .before .before .find .result)) (c .enum-told .given .1))
 
--- src/line.rt:29:1
 returns-4 : tie.Need-returns-4
 returns-4 c = settled (c .before .before) (ap (λ n. field-of n (c .before .before .before .before .find .result)) (c .enum-told2 .given .1))
 

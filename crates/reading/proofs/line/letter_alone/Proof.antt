@@ -3,18 +3,13 @@ use Rattle.reading.proofs.Counting.{alone, not-alone}
 use borrow.Author.Needs.{needs}
 use Rattle.reading.proofs.line.letter_alone.Statement.{statement}
 use Rattle.reading.proofs.line.letter_alone.Tie as tie
-use Rattle.reading.proofs.line.letter_alone.Reads as reads
-use Rattle.reading.proofs.line.letter_alone.Lts as lts
 
--- src/line.rt:23:9
 returns : tie.Need-returns
 returns c = not-alone (c .before .args .letter) (c .before .args .field .now) (c .if1 .taken)
 
--- src/line.rt:25:5
 shared-slice-read-result : tie.Need-shared-slice-read-result
 shared-slice-read-result c = search needs
 
--- src/line.rt:19:1
 returns-2 : tie.Need-returns-2
 returns-2 c = alone (c .before .before .args .letter) (c .before .before .args .field .now) (c .before .if1 .left)
 

@@ -17,12 +17,6 @@ use Rattle.reading.proofs.Parting.{Finds, finds}
 use Rattle.reading.proofs.Counting.{Counting, other-letter, counting-start, counting-fault, counting-next, counting-end, next-sign, bad-read}
 use Rattle.reading.proofs.line.line_numbers.Statement.{statement}
 use Rattle.reading.proofs.line.line_numbers.Tie as tie
-use Rattle.reading.proofs.line.line_numbers.Reads as reads
-use Rattle.reading.proofs.line.line_numbers.Lts as lts
-use Rattle.bytes.proofs.scan.find.Reads as find-reads
-use Rattle.reading.proofs.line.bad_line.Reads as bad-line-reads
-use Rattle.reading.proofs.line.field_after.Reads as field-after-reads
-use Rattle.reading.proofs.line.letter_alone.Reads as letter-alone-reads
 
 abbrev Inv-loop : tie.InvT-loop
 Inv-loop line letter count signs at₀ values₀ i₀ at values i = Counting line letter count signs at values i
@@ -52,75 +46,57 @@ next a {z} {end} e h =
     let l = a .before .before .loop in
     counting-next _ _ _ _ (l .at) (l .values) (l .i) (l .inv) _ (sign a) z end (subst (FieldRead _ (l .at) _) e (a .field-after .ensures)) (omega arith) h
 
--- src/line.rt:60:9
 find-requires : tie.Need-find-requires Inv-loop μ-loop
 find-requires c κs = search needs
 
--- src/line.rt:61:22
 slice-aggregate-letter-alone : tie.Need-slice-aggregate-letter-alone Inv-loop μ-loop
 slice-aggregate-letter-alone c = sym (length-take-le _ _ (c .before .find .ensures .1))
 
--- src/line.rt:61:9
 letter-alone-requires : tie.Need-letter-alone-requires Inv-loop μ-loop
 letter-alone-requires c κs = tt
 
--- src/line.rt:62:9
 bad-line-requires : tie.Need-bad-line-requires Inv-loop μ-loop
 bad-line-requires c κs = tt
 
--- src/line.rt:62:9
 returns : tie.Need-returns Inv-loop μ-loop
 returns c = let s = c .before .before .before .before .before .before in bad-read (other-letter (s .args .line .now) (s .args .letter) (s .args .count) (s .args .t4) (found (c .before .before .before .before)) (c .before .before .letter-alone .ensures) (not-true _ (c .before .if1 .taken))) (c .bad-line .ensures)
 
--- src/line.rt:66:5
 loop-holds : tie.Need-loop-holds Inv-loop μ-loop
 loop-holds c = counting-start _ _ _ _ (found (c .before .before .before)) (c .before .letter-alone .ensures) (not-false _ (c .if1 .left))
 
--- src/line.rt:67:43
 array-read-field-after : tie.Need-array-read-field-after Inv-loop μ-loop
 array-read-field-after c = omega arith
 
--- src/line.rt:67:13
 field-after-requires : tie.Need-field-after-requires Inv-loop μ-loop
 field-after-requires c κs = omega arith
 
--- src/line.rt:69:28
 enum-known-field : tie.Need-enum-known-field Inv-loop μ-loop
 enum-known-field c = search needs
 
--- src/line.rt:70:17
 mul-values : tie.Need-mul-values Inv-loop μ-loop
 mul-values c = search needs
 
--- src/line.rt:70:17
 array-set-from-values : tie.Need-array-set-from-values Inv-loop μ-loop
 array-set-from-values c = omega arith
 
--- src/line.rt:74:17
 enum-told : tie.Need-enum-told Inv-loop μ-loop
 enum-told c = search needs
 
--- src/line.rt:74:17
 bad-line-requires-2 : tie.Need-bad-line-requires-2 Inv-loop μ-loop
 bad-line-requires-2 c κs = tt
 
--- src/line.rt:74:17
 returns-2 : tie.Need-returns-2 Inv-loop μ-loop
 returns-2 c = let a = c .before .before .before in bad-read (fault a (c .before .enum-told .given .1)) (c .bad-line2 .ensures)
 
--- src/line.rt:77:9
 add-i : tie.Need-add-i Inv-loop μ-loop
 add-i c = search needs
 
--- src/line.rt:66:5
 loop-less : tie.Need-loop-less Inv-loop μ-loop
 loop-less c = omega arith
 
--- src/line.rt:66:5
 loop-again : tie.Need-loop-again Inv-loop μ-loop
 loop-again c = let a = c .before .before .before in next a (c .before .field .given .1 ∙ ap (λ z. Field.Whole z (c .before .field .given .0 .1 .0)) (sym (read32 _ (c .known-told .given .0 .1)))) (omega arith)
 
--- src/line.rt:56:1
 returns-3 : tie.Need-returns-3 Inv-loop μ-loop
 returns-3 c = let l = c .before .loop in record { read = counting-end _ _ _ _ (l .at) (l .values) (l .i) (l .inv) (omega arith); three = l .inv .long }
 

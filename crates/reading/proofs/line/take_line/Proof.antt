@@ -6,43 +6,31 @@ use Rattle.reading.proofs.Taking.{untaken, taken}
 use borrow.Author.Needs.{needs}
 use Rattle.reading.proofs.line.take_line.Statement.{statement}
 use Rattle.reading.proofs.line.take_line.Tie as tie
-use Rattle.reading.proofs.line.take_line.Reads as reads
-use Rattle.reading.proofs.line.take_line.Lts as lts
-use Rattle.bytes.proofs.scan.find.Reads as find-reads
-use Rattle.reading.proofs.line.line_numbers.Reads as line-numbers-reads
 
 found : (c : tie.After-find) → Finds 10 (c .before .before .args .text .now) (c .before .before .args .at) (c .find .result)
 found c = finds 10 (c .before .before .args .text .now) (c .before .before .args .at) (c .find .ensures .0) (c .find .ensures .1) (omega arith)
 
--- src/line.rt:90:9
 find-requires : tie.Need-find-requires
 find-requires c κs = search needs
 
--- src/line.rt:92:9
 returns : tie.Need-returns
 returns c = let s = c .before .before .before in untaken (s .args .text .now) (s .args .at) (s .args .letter) (s .args .count) (s .args .signs) (found (c .before)) (omega arith) _ _ refl (omega arith)
 
--- src/line.rt:98:32
 sub-line-numbers : tie.Need-sub-line-numbers
 sub-line-numbers c = search needs
 
--- src/line.rt:98:32
 part-line-numbers-start : tie.Need-part-line-numbers-start
 part-line-numbers-start c = search needs
 
--- src/line.rt:98:32
 part-line-numbers-end : tie.Need-part-line-numbers-end
 part-line-numbers-end c = search needs
 
--- src/line.rt:98:9
 line-numbers-requires : tie.Need-line-numbers-requires
 line-numbers-requires c κs = search needs
 
--- src/line.rt:102:15
 add-t9 : tie.Need-add-t9
 add-t9 c = search needs
 
--- src/line.rt:86:1
 returns-2 : tie.Need-returns-2
 returns-2 c = let s = c .before .before .before .before .before .before in let e = c .before .line-numbers .ensures in taken (s .args .text .now) (s .args .at) (s .args .letter) (s .args .count) (s .args .signs) (found (c .before .before .before .before)) (omega arith) (e .read) (e .three)
 

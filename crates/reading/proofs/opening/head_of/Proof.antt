@@ -5,51 +5,37 @@ use Rattle.reading.proofs.Numerals.{read32, sized}
 use borrow.Author.Needs.{needs}
 use Rattle.reading.proofs.opening.head_of.Statement.{statement}
 use Rattle.reading.proofs.opening.head_of.Tie as tie
-use Rattle.reading.proofs.opening.head_of.Reads as reads
-use Rattle.reading.proofs.opening.head_of.Lts as lts
-use Rattle.reading.proofs.opening.size.Reads as size-reads
 
--- src/opening.rt:39:17
 array-copy-out-size : tie.Need-array-copy-out-size
 array-copy-out-size c = search needs
 
--- src/opening.rt:39:12
 size-requires : tie.Need-size-requires
 size-requires c κs = search needs
 
--- src/opening.rt:40:12
 array-copy-out-t16 : tie.Need-array-copy-out-t16
 array-copy-out-t16 c = search needs
 
--- src/opening.rt:41:12
 array-copy-out-t19 : tie.Need-array-copy-out-t19
 array-copy-out-t19 c = search needs
 
--- src/opening.rt:42:17
 array-copy-out-size-2 : tie.Need-array-copy-out-size-2
 array-copy-out-size-2 c = search needs
 
--- src/opening.rt:42:12
 size-requires-2 : tie.Need-size-requires-2
 size-requires-2 c κs = search needs
 
--- src/opening.rt:43:17
 array-copy-out-size-3 : tie.Need-array-copy-out-size-3
 array-copy-out-size-3 c = search needs
 
--- src/opening.rt:43:12
 size-requires-3 : tie.Need-size-requires-3
 size-requires-3 c κs = search needs
 
--- src/opening.rt:44:20
 array-copy-out-size-4 : tie.Need-array-copy-out-size-4
 array-copy-out-size-4 c = search needs
 
--- src/opening.rt:44:15
 size-requires-4 : tie.Need-size-requires-4
 size-requires-4 c κs = search needs
 
--- src/opening.rt:32:1
 returns : tie.Need-returns
 returns c =
     let a = c .before .before .before .before .before .before .before .before in let g = a .before .before .args in

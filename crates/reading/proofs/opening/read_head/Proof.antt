@@ -4,72 +4,53 @@ use Rattle.reading.proofs.Heads.{bad-1, bad-2, bad-3, bad-4, all-four}
 use borrow.Author.Needs.{needs}
 use Rattle.reading.proofs.opening.read_head.Statement.{statement}
 use Rattle.reading.proofs.opening.read_head.Tie as tie
-use Rattle.reading.proofs.opening.read_head.Reads as reads
-use Rattle.reading.proofs.opening.read_head.Lts as lts
-use Rattle.reading.proofs.line.take_line.Reads as take-line-reads
-use Rattle.reading.proofs.opening.bad_head.Reads as bad-head-reads
-use Rattle.reading.proofs.opening.head_of.Reads as head-of-reads
 
--- src/opening.rt:51:9
 take-line-requires : tie.Need-take-line-requires
 take-line-requires c κs = search needs
 
--- src/opening.rt:53:9
 bad-head-requires : tie.Need-bad-head-requires
 bad-head-requires c κs = search needs
 
--- src/opening.rt:53:9
 returns : tie.Need-returns
 returns c = bad-1 _ (c .before .before .before .take-line .ensures) (not-true _ (c .before .if1 .taken)) (c .bad-head .ensures)
 
--- src/opening.rt:55:9
 take-line-requires-2 : tie.Need-take-line-requires-2
 take-line-requires-2 c κs = search needs
 
--- src/opening.rt:57:9
 bad-head-requires-2 : tie.Need-bad-head-requires-2
 bad-head-requires-2 c κs = search needs
 
--- src/opening.rt:57:9
 returns-2 : tie.Need-returns-2
 returns-2 c =
     let l2 = c .before .before .before in let l1 = l2 .before .before .before in
     bad-2 _ (l1 .take-line .ensures) (not-false _ (l2 .before .if1 .left)) (l2 .take-line2 .ensures) (not-true _ (c .before .if2 .taken)) (c .bad-head2 .ensures)
 
--- src/opening.rt:59:9
 take-line-requires-3 : tie.Need-take-line-requires-3
 take-line-requires-3 c κs = search needs
 
--- src/opening.rt:61:9
 bad-head-requires-3 : tie.Need-bad-head-requires-3
 bad-head-requires-3 c κs = search needs
 
--- src/opening.rt:61:9
 returns-3 : tie.Need-returns-3
 returns-3 c =
     let l3 = c .before .before .before in let l2 = l3 .before .before .before in let l1 = l2 .before .before .before in
     bad-3 _ (l1 .take-line .ensures) (not-false _ (l2 .before .if1 .left)) (l2 .take-line2 .ensures) (not-false _ (l3 .before .if2 .left)) (l3 .take-line3 .ensures) (not-true _ (c .before .if3 .taken)) (c .bad-head3 .ensures)
 
--- src/opening.rt:63:9
 take-line-requires-4 : tie.Need-take-line-requires-4
 take-line-requires-4 c κs = search needs
 
--- src/opening.rt:65:9
 bad-head-requires-4 : tie.Need-bad-head-requires-4
 bad-head-requires-4 c κs = search needs
 
--- src/opening.rt:65:9
 returns-4 : tie.Need-returns-4
 returns-4 c =
     let l4 = c .before .before .before in let l3 = l4 .before .before .before in let l2 = l3 .before .before .before in let l1 = l2 .before .before .before in
     bad-4 _ (l1 .take-line .ensures) (not-false _ (l2 .before .if1 .left)) (l2 .take-line2 .ensures) (not-false _ (l3 .before .if2 .left)) (l3 .take-line3 .ensures) (not-false _ (l4 .before .if3 .left))
     (l4 .take-line4 .ensures) (not-true _ (c .before .if4 .taken)) (c .bad-head4 .ensures)
 
--- src/opening.rt:71:5
 head-of-requires : tie.Need-head-of-requires
 head-of-requires c κs = search needs
 
--- src/opening.rt:48:1
 returns-5 : tie.Need-returns-5
 returns-5 c =
     let e = c .before .before .before .before .before in let l4 = e .before .before in let l3 = l4 .before .before .before in let l2 = l3 .before .before .before in let l1 = l2 .before .before .before in

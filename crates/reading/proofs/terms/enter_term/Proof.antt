@@ -5,44 +5,31 @@ use Rattle.reading.proofs.Numerals.{read32, sized}
 use borrow.Author.Needs.{needs}
 use Rattle.reading.proofs.terms.enter_term.Statement.{statement}
 use Rattle.reading.proofs.terms.enter_term.Tie as tie
-use Rattle.reading.proofs.terms.enter_term.Reads as reads
-use Rattle.reading.proofs.terms.enter_term.Lts as lts
-use Rattle.reading.proofs.opening.size.Reads as size-reads
-use Rattle.reading.proofs.terms.enter.Reads as enter-reads
 
--- src/terms.rt:38:18
 array-copy-out-size : tie.Need-array-copy-out-size
 array-copy-out-size c = search needs
 
--- src/terms.rt:38:9
 size-requires : tie.Need-size-requires
 size-requires c κs = search needs
 
--- src/terms.rt:39:18
 array-copy-out-size-2 : tie.Need-array-copy-out-size-2
 array-copy-out-size-2 c = search needs
 
--- src/terms.rt:39:9
 size-requires-2 : tie.Need-size-requires-2
 size-requires-2 c κs = search needs
 
--- src/terms.rt:40:20
 array-copy-out-enter : tie.Need-array-copy-out-enter
 array-copy-out-enter c = search needs
 
--- src/terms.rt:40:5
 enter-requires : tie.Need-enter-requires
 enter-requires c κs = search needs
 
--- src/terms.rt:34:1
 same-length : tie.Need-same-length
 same-length c = search needs
 
--- src/terms.rt:34:1
 same-length-2 : tie.Need-same-length-2
 same-length-2 c = search needs
 
--- src/terms.rt:34:1
 returns : tie.Need-returns
 returns c =
     let e = c .before .before .before in let b = e .before .before .before .before in let a = b .before .before in let g = a .before .before .before .args in

@@ -6,9 +6,6 @@ use lib.ListN.{length}
 use Rattle.reading.proofs.Naming.{Naming, naming-start, naming-next, naming-bad, naming-end}
 use Rattle.reading.proofs.terms.read_terms.Statement.{statement}
 use Rattle.reading.proofs.terms.read_terms.Tie as tie
-use Rattle.reading.proofs.terms.read_terms.Reads as reads
-use Rattle.reading.proofs.terms.read_terms.Lts as lts
-use Rattle.reading.proofs.terms.term_line.Reads as term-line-reads
 
 abbrev Inv-loop : tie.InvT-loop
 Inv-loop text from d values₀ named₀ at₀ line₀ values named at line = Naming text from d values named at line
@@ -16,47 +13,36 @@ Inv-loop text from d values₀ named₀ at₀ line₀ values named at line = Nam
 abbrev μ-loop : tie.MeasureT-loop
 μ-loop text from d values₀ named₀ at₀ line₀ values named at line = length text - at
 
--- src/terms.rt:66:5
 loop-holds : tie.Need-loop-holds Inv-loop μ-loop
 loop-holds c = let s = c .before .before in naming-start _ _ _ _ _ (s .pre .2) (s .pre .0)
 
--- src/terms.rt:67:13
 term-line-requires : tie.Need-term-line-requires Inv-loop μ-loop
 term-line-requires c κs = let l = c .before .before .before .loop .inv in (omega arith, l .held .long, l .held .marks)
 
--- src/terms.rt:69:13
 same-length : tie.Need-same-length Inv-loop μ-loop
 same-length c = search needs
 
--- src/terms.rt:69:13
 same-length-2 : tie.Need-same-length-2 Inv-loop μ-loop
 same-length-2 c = search needs
 
--- src/terms.rt:69:13
 returns : tie.Need-returns Inv-loop μ-loop
 returns c = let t = c .before .before .before .before in naming-bad _ _ _ (t .before .before .before .before .loop .inv) (t .term-line .ensures) (c .if1 .taken)
 
--- src/terms.rt:72:9
 add-line : tie.Need-add-line Inv-loop μ-loop
 add-line c = let l = c .before .before .before .before .before .before .before .before .loop .inv in record { fits = omega (arith, l .most, l .within) }
 
--- src/terms.rt:66:5
 loop-less : tie.Need-loop-less Inv-loop μ-loop
 loop-less c = let f = c .before .before .before .before .term-line .ensures .further (c .if1 .left) in let w = c .before .before .before .before .term-line .ensures .within in omega (arith, f, w)
 
--- src/terms.rt:66:5
 loop-again : tie.Need-loop-again Inv-loop μ-loop
 loop-again c = let t = c .before .before .before .before in naming-next _ _ _ (t .before .before .before .before .loop .inv) (t .term-line .ensures) (c .if1 .left)
 
--- src/terms.rt:60:1
 same-length-3 : tie.Need-same-length-3 Inv-loop μ-loop
 same-length-3 c = search needs
 
--- src/terms.rt:60:1
 same-length-4 : tie.Need-same-length-4 Inv-loop μ-loop
 same-length-4 c = search needs
 
--- src/terms.rt:60:1
 returns-2 : tie.Need-returns-2 Inv-loop μ-loop
 returns-2 c = let l = c .before .loop .inv in naming-end _ _ _ l (let w = l .within in omega arith)
 

@@ -4,47 +4,34 @@ use Rattle.reading.proofs.Naming.{term-bad, term-refused, term-entered}
 use borrow.Author.Needs.{needs}
 use Rattle.reading.proofs.terms.term_line.Statement.{statement}
 use Rattle.reading.proofs.terms.term_line.Tie as tie
-use Rattle.reading.proofs.terms.term_line.Reads as reads
-use Rattle.reading.proofs.terms.term_line.Lts as lts
-use Rattle.reading.proofs.line.take_line.Reads as take-line-reads
-use Rattle.reading.proofs.terms.enter_term.Reads as enter-term-reads
 
--- src/terms.rt:48:9
 take-line-requires : tie.Need-take-line-requires
 take-line-requires c κs = search needs
 
--- src/terms.rt:50:9
 returns : tie.Need-returns
 returns c = let s = c .before .before .before .before .before in term-bad (s .args .text .now) (s .args .at) (s .pre .0) (s .args .d) (c .before .before .take-line .ensures) (s .args .values .now) (s .args .named .now) (s .pre .1) (s .pre .2) (not-true _ (c .if1 .taken))
 
--- src/terms.rt:53:8
 enter-term-requires : tie.Need-enter-term-requires
 enter-term-requires c κs = search needs
 
--- src/terms.rt:54:9
 same-length : tie.Need-same-length
 same-length c = search needs
 
--- src/terms.rt:54:9
 same-length-2 : tie.Need-same-length-2
 same-length-2 c = search needs
 
--- src/terms.rt:54:9
 returns-2 : tie.Need-returns-2
 returns-2 c =
     let e = c .before .before .before .before in let b = e .before .before .before .before in let t = b .before .before in let s = t .before .before .before in
     term-entered (s .args .text .now) (s .args .at) (s .pre .0) (s .args .d) (t .take-line .ensures) (s .args .values .now) (s .args .named .now) (s .pre .1) (s .pre .2)
     (not-false _ (b .if1 .left)) _ _ (e .enter-term .ensures) (c .if2 .taken)
 
--- src/terms.rt:44:1
 same-length-3 : tie.Need-same-length-3
 same-length-3 c = search needs
 
--- src/terms.rt:44:1
 same-length-4 : tie.Need-same-length-4
 same-length-4 c = search needs
 
--- src/terms.rt:44:1
 returns-3 : tie.Need-returns-3
 returns-3 c =
     let e = c .before .before .before .before in let b = e .before .before .before .before in let t = b .before .before in let s = t .before .before .before in
