@@ -9,5 +9,6 @@ pub mod Raster
 pub mod Facts
 pub mod ReadFacts
 pub mod Edges
+pub mod Decimals
 pub mod Samples
 pub mod TextSamples
