@@ -16,4 +16,5 @@ pub mod Places
 pub mod Binomial
 pub mod Horner
 pub mod Digits
+pub mod Written
 pub mod Samples

@@ -6,3 +6,4 @@ pub mod MinMax
 pub mod Triangle
 pub mod Digits
 pub mod OrderedRing
+pub mod Written

@@ -1,13 +1,15 @@
 -- Listing a cell writes its records: one for a cell that is not cut, and the four parts' in turn for a cut one. Where there is room for a record of
 -- each finest cell, there is room for those of each part.
 use mathlib.Core.Path.{_≡_, sym, _∙_, ap}
-use mathlib.Core.List.{List, [], _∷_, _++_}
-use Prim.Native.Nat.{ℕ, suc, _+_, _*_, _-_, _^_, _≤_, _<_}
+use mathlib.Core.List.{List}
+use Prim.Native.Nat.{ℕ, _+_, _*_, _-_, _^_, _≤_, _<_}
 use native.Mathlib.Nat as Nat
 use native.Mathlib.Omega.{arith}
 use lib.Dec.{lit<}
-use lib.ListN.{length, set, length-append}
-use lib.Seq.{sets, length-sets}
+use lib.ListN.{length, set}
+use lib.Seq.{sets}
+use Rattle.algebra.specs.Written.{Written}
+use Rattle.algebra.proofs.Written.{written-two, written-length}
 use Rattle.verdicts.specs.Walking.{Verdicts, in-turn, record-of}
 use Rattle.verdicts.specs.Operational.{records-from}
 use Rattle.verdicts.proofs.Cells.{Opened, levels-below, records-open}
@@ -15,27 +17,6 @@ use Rattle.verdicts.proofs.Bounds.{records-bound}
 use Rattle.walk.specs.declared.Entered.{Entered}
 use Rattle.walk.specs.Steps.{one-seen, cut-seen, Recorded}
 use Rattle.walk.proofs.Cells.{Settled, counted-one, counted-cut}
-
--- ---- entries written one after the other
--- xs is written from `at` on and ends before `end`
-record Written (xs : List ℕ) (at : ℕ) (old now : List ℕ) (end : ℕ) : Type 0 where
-  ends : end ≡ at + length xs
-  written : now ≡ sets old at xs
-
-sets-append : (xs ys l : List ℕ) (i : ℕ) → sets (sets l i xs) (i + length xs) ys ≡ sets l i (xs ++ ys)
-sets-append [] ys l i = ap (λ n. sets l n ys) (Nat.add-zero i)
-sets-append (x ∷ xs) ys l i =
-    ap (λ n. sets (sets (set l i x) (suc i) xs) n ys) (Nat.add-suc i (length xs) ∙ sym (Nat.suc-add i (length xs)))
-    ∙ sets-append xs ys (set l i x) (suc i)
-
-written-two : {xs ys l m n : List ℕ} {a b r : ℕ} → Written xs a l m b → Written ys b m n r → Written (xs ++ ys) a l n r
-written-two {xs} {ys} {l} {a = a} {b} h j = record {
-  ends = omega (arith, h .ends, j .ends, length-append xs ys);
-  written = j .written
-      ∙ ap (λ z. sets z b ys) (h .written)
-      ∙ ap (λ i. sets (sets l a xs) i ys) (h .ends)
-      ∙ sets-append xs ys l a;
-}
 
 -- ---- what `list_cell` and `list_parts` promise
 pub recorded-one : {v : Verdicts} {k level p q at c : ℕ} {old : List ℕ} → Settled v level (k - level) p q c
@@ -73,9 +54,8 @@ room-one k level at old h = omega (arith, Nat.one-le-pow (k - level) 4 (lit< tt)
 -- the records of a cell leave the rest of the room
 room-rest : {v : Verdicts} {k level p q at : ℕ} {old now : List ℕ} {r : Entered} (rest : ℕ) → Recorded v k level p q at old now r
     → at + (4 ^ (k - level) + rest) ≤ length old → r .end + rest ≤ length now
-room-rest {v} {k} {level} {p} {q} {at} {old} rest h j =
-    let xs = records-from v level (k - level) p q in
-    omega (arith, h .ends, records-bound v level (k - level) p q, ap length (h .written), length-sets old at xs)
+room-rest {v} {k} {level} {p} {q} rest h j =
+    omega (arith, h .ends, records-bound v level (k - level) p q, written-length (as-written h))
 
 -- the room of a part
 abbrev part : ℕ → ℕ → ℕ
