@@ -47,15 +47,21 @@ decimal-induction P one more n = below (n + 1) n (omega arith)
       | no l ↦ rw (decimal-more n (omega arith)) (more n (omega arith) (below m (n / 10) (omega arith)))
     ]
 
--- ---- a number below 10^m has at most m digits
+-- ---- how many digits there are: a number below 10^m has at most m
+pub digits-one : (n : ℕ) → n < 10 → length (decimal n) ≡ 1
+digits-one n h = ap length (decimal-one n h)
+
+pub digits-more : (n : ℕ) → 10 ≤ n → length (decimal n) ≡ length (decimal (n / 10)) + 1
+digits-more n h = ap length (decimal-more n h) ∙ length-append (decimal (n / 10)) _
+
 pub decimal-short : (m n : ℕ) → 1 ≤ m → n < 10 ^ m → length (decimal n) ≤ m
 decimal-short zero n h i = absurd (omega arith)
-decimal-short (suc zero) n h i = rw (decimal-one n i) h
+decimal-short (suc zero) n h i = omega (arith, digits-one n i)
 decimal-short (suc (suc m)) n h i = elim (decLt n 10) [
-  | yes l ↦ rw (decimal-one n l) (omega arith)
+  | yes l ↦ omega (arith, digits-one n l)
   | no l ↦
       let t : n / 10 < 10 ^ suc m = omega (arith, Nat.pow-suc 10 (suc m)) in
-      rw (decimal-more n (omega arith), length-append) (omega (arith, decimal-short (suc m) (n / 10) (omega arith) t))
+      omega (arith, digits-more n (omega arith), decimal-short (suc m) (n / 10) (omega arith) t)
 ]
 
 -- ---- reading
@@ -65,10 +71,10 @@ unfolding amount
 amount-more n b [] = refl
 amount-more n b (a ∷ bs) = amount-more (10 * n + (a - 48)) b bs
 
-digits-more : (b : ℕ) (bs : List ℕ) → all-digits bs ≡ true → is-digit b ≡ true → all-digits (bs ++ (b ∷ [])) ≡ true
+all-more : (b : ℕ) (bs : List ℕ) → all-digits bs ≡ true → is-digit b ≡ true → all-digits (bs ++ (b ∷ [])) ≡ true
 unfolding all-digits
-digits-more b [] h i = and-both (is-digit b) true i refl
-digits-more b (a ∷ bs) h i = and-both (is-digit a) _ (and-left (is-digit a) (all-digits bs) h) (digits-more b bs (and-right (is-digit a) (all-digits bs) h) i)
+all-more b [] h i = and-both (is-digit b) true i refl
+all-more b (a ∷ bs) h i = and-both (is-digit a) _ (and-left (is-digit a) (all-digits bs) h) (all-more b bs (and-right (is-digit a) (all-digits bs) h) i)
 
 -- a digit is from 48 to 57
 digit-low : (b : ℕ) → is-digit b ≡ true → 48 ≤ b
@@ -108,7 +114,7 @@ unfolding amount
 well-more [] n h i l = absurd (false≢true h)
 well-more (b ∷ bs) n h i l =
     let w = well b bs h in
-    is-well b _ (record { first = w .first; others = digits-more (48 + n) bs (w .others) (digit-is n l); plain = λ e. absurd (let z = rw (w .plain e) at i in omega arith) })
+    is-well b _ (record { first = w .first; others = all-more (48 + n) bs (w .others) (digit-is n l); plain = λ e. absurd (let z = rw (w .plain e) at i in omega arith) })
 
 pub decimal-reads : DecimalReads
 unfolding amount all-digits

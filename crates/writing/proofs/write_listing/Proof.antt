@@ -1,0 +1,31 @@
+use borrow.Author.Needs.{needs}
+use native.Mathlib.Omega.{arith}
+use Rattle.page.specs.ListingText.{total-line}
+use Rattle.writing.proofs.Puts.{put-two}
+use Rattle.writing.proofs.write_listing.Statement.{statement}
+use Rattle.writing.proofs.write_listing.Tie as tie
+use Rattle.writing.proofs.write_listing.Reads as reads
+use Rattle.writing.proofs.write_listing.Lts as lts
+use Rattle.writing.proofs.lines.put_line.Reads as put-line-reads
+use Rattle.writing.proofs.lines.put_records.Reads as put-records-reads
+
+put-records-requires : tie.Need-put-records-requires
+put-records-requires c κs = search needs
+
+slice-aggregate-put-line : tie.Need-slice-aggregate-put-line
+slice-aggregate-put-line c = search needs
+
+put-line-requires : tie.Need-put-line-requires
+put-line-requires c κs = omega (arith, c .before .before .before .before .put-records .ensures .1)
+
+same-length : tie.Need-same-length
+same-length c = search needs
+
+returns : tie.Need-returns
+unfolding total-line
+returns c = put-two (c .before .before .before .before .before .before .before .put-records .ensures .0) (c .before .before .put-line .ensures)
+
+pub write-listing-spec : {M : Type 1} → statement M
+write-listing-spec =
+    tie.close
+    (tie.spec put-records-requires slice-aggregate-put-line put-line-requires same-length returns)

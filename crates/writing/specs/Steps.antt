@@ -1,0 +1,19 @@
+-- What the contracts say of the bytes that are written. None of it is the page's.
+use mathlib.Core.List.{List, flatMap}
+use Prim.Native.Nat.{ℕ, _/_, _%_, _≤_}
+use lib.ListN.{length}
+use Rattle.algebra.specs.Written.{Written}
+use Rattle.page.specs.ListingText.{record-line}
+
+-- the line of a record: level is r/65,536, column r/4 mod 128, row r/512 mod 128, colour r mod 4
+abbrev pub record-text : ℕ → List ℕ
+record-text r = record-line (r % 4) (r / 65_536) (r / 4 % 128) (r / 512 % 128)
+
+-- the lines of records, one after the other
+unfoldable pub records-text : List ℕ → List ℕ
+records-text rs = flatMap record-text rs
+
+-- the bytes are written from `at` on, and no other byte of the place changes; r is where they end, within the place
+pub record Put (at : ℕ) (bytes old now : List ℕ) (r : ℕ) : Type 0 where
+  pub put : Written bytes at old now r
+  pub fits : r ≤ length old
