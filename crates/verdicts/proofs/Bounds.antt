@@ -44,7 +44,7 @@ records-bound v = walk-induction v (λ level n p q. length (records-from v level
     )))
 
 -- ---- with at most 7 levels below it
-power-small : {n : ℕ} → n ≤ 7 → 4 ^ n ≤ 16_384
+pub power-small : {n : ℕ} → n ≤ 7 → 4 ^ n ≤ 16_384
 power-small l = Nat.pow-le-pow-right {n = 4} (lit< tt) l
 
 pub visited-small : (v : Verdicts) (level n p q : ℕ) → n ≤ 7 → visited-from v level n p q ≤ 21_845

@@ -7,6 +7,7 @@ use Prim.Native.Nat.{ℕ, zero, suc, _+_, _-_, _/_, _^_, _≤_, _<_}
 use native.Mathlib.Nat as Nat
 use native.Mathlib.Omega.{arith}
 use lib.Dec.{eqb}
+use lib.Pow.{pow-pos}
 use borrow.Author.Tests.{eq-eqb, ne-eqb}
 use Rattle.algebra.proofs.Run.{span-none}
 use Rattle.verdicts.specs.Walking.{Verdicts, is-open, colour-of, Cell, cell, in-turn, walking-order, those, record-of, listing, record-at}
@@ -16,27 +17,30 @@ use Rattle.verdicts.proofs.Lists.{those-first, those-cong, those-none}
 use Rattle.verdicts.proofs.Parts.{half-of, in-turn-cong, in-turn-member, those-in-turn, map-in-turn}
 use Rattle.verdicts.proofs.Levels.{open-from, open-first}
 
--- ---- the cells in walking order from a cell on lie inside it
-record Inside (level p q : ℕ) (c : Cell) : Type 0 where
+-- ---- the cells in walking order, of n further levels from a cell on, lie inside it
+record Inside (n level p q : ℕ) (c : Cell) : Type 0 where
   deep : level ≤ c .level
+  reached : c .level ≤ level + n
   across : c .column / 2 ^ (c .level - level) ≡ p
   up : c .row / 2 ^ (c .level - level) ≡ q
 
-inside-self : (level p q : ℕ) → Inside level p q (cell level p q)
-inside-self level p q =
+inside-self : (n level p q : ℕ) → Inside n level p q (cell level p q)
+inside-self n level p q =
     let e : level - level ≡ 0 = omega arith in
-    record { deep = Nat.le-refl level; across = rw e (Nat.div-one p); up = rw e (Nat.div-one q) }
+    record { deep = Nat.le-refl level; reached = omega arith; across = rw e (Nat.div-one p); up = rw e (Nat.div-one q) }
 
 -- what lies a level deeper in half a column lies in the column
 halved : (level j x a p : ℕ) → level < j → a / 2 ≡ p → x / 2 ^ (j - (level + 1)) ≡ a → x / 2 ^ (j - level) ≡ p
 halved level j x a p l e f =
     rw (levels-below l, ← half-of x (j - (level + 1)), f) e
 
-inside-part : (level p q a b : ℕ) (c : Cell) → a / 2 ≡ p → b / 2 ≡ q → Inside (level + 1) a b c → Inside level p q c
-inside-part level p q a b c e f i =
+inside-part : (n level p q a b : ℕ) (c : Cell) → a / 2 ≡ p → b / 2 ≡ q → Inside n (level + 1) a b c → Inside (suc n) level p q c
+inside-part n level p q a b c e f i =
     let d = i .deep in
+    let r = i .reached in
     record {
       deep = omega arith;
+      reached = omega arith;
       across = halved level (c .level) (c .column) a p (omega arith) e (i .across);
       up = halved level (c .level) (c .row) b q (omega arith) f (i .up);
     }
@@ -51,14 +55,27 @@ unfolding walking-order
 order-first zero level p q = refl
 order-first (suc n) level p q = refl
 
-later-inside : (n level p q : ℕ) (c : Cell) → List·Memᴰ c (later n level p q) → (level < c .level) × Inside level p q c
+later-inside : (n level p q : ℕ) (c : Cell) → List·Memᴰ c (later n level p q) → (level < c .level) × Inside n level p q c
 later-inside zero level p q c m = absurd (List·Memᴰ·not-nil m)
-later-inside (suc n) level p q c m = in-turn-member (walking-order n (level + 1)) p q (λ c. (level < c .level) × Inside level p q c) (λ a b e f c m.
-    let i : Inside (level + 1) a b c = elim (List·Memᴰ·cases-cons (rw (order-first n (level + 1) a b) at m)) [
-      | inl s ↦ rw s (inside-self (level + 1) a b)
+later-inside (suc n) level p q c m = in-turn-member (walking-order n (level + 1)) p q (λ c. (level < c .level) × Inside (suc n) level p q c) (λ a b e f c m.
+    let i : Inside n (level + 1) a b c = elim (List·Memᴰ·cases-cons (rw (order-first n (level + 1) a b) at m)) [
+      | inl s ↦ rw s (inside-self n (level + 1) a b)
       | inr r ↦ later-inside n (level + 1) a b c r .1
     ] in
-    (let d = i .deep in omega arith, inside-part level p q a b c e f i)) c m
+    (let d = i .deep in omega arith, inside-part n level p q a b c e f i)) c m
+
+-- so those from the cell at level 0 on are cells of the grid
+walked-inside : (k : ℕ) (c : Cell) → List·Memᴰ c (walking-order k 0 0 0) → Inside k 0 0 0 c
+walked-inside k c m = elim (List·Memᴰ·cases-cons (rw (order-first k 0 0 0) at m)) [
+  | inl s ↦ rw s (inside-self k 0 0 0)
+  | inr r ↦ later-inside k 0 0 0 c r .1
+]
+
+below-side : (x l : ℕ) → x / 2 ^ (l - 0) ≡ 0 → x < 2 ^ l
+below-side x l e = let s : x / 2 ^ l < 1 = omega (arith, rw Nat.sub-zero at e) in omega (arith, Nat.div-lt-iff-lt-mul {k = 2 ^ l} {x = x} {y = 1} (pow-pos l) .0 s)
+
+pub walked-on-grid : (k : ℕ) (c : Cell) → List·Memᴰ c (walking-order k 0 0 0) → (c .level ≤ k) × (c .column < 2 ^ c .level) × (c .row < 2 ^ c .level)
+walked-on-grid k c m = let i = walked-inside k c m in (omega (arith, i .reached), below-side _ _ (i .across), below-side _ _ (i .up))
 
 -- ---- the cells that are listed, as the cells from `level` on decide it
 abbrev listed-from : Verdicts → ℕ → ℕ → Cell → Bool

@@ -2,8 +2,8 @@
 use mathlib.Core.Path.{_≡_, refl, sym}
 use mathlib.Core.Bool.{Bool, false, cond}
 use mathlib.Core.Logic.{inl, inr}
-use mathlib.Core.List.{List, [], _∷_, _++_, map, flatMap, append-assoc, List·Memᴰ, List·Memᴰ·head, List·Memᴰ·tail, List·Memᴰ·append-cases}
-use Rattle.algebra.proofs.Choice.{cond-ap}
+use mathlib.Core.List.{List, [], _∷_, _++_, map, flatMap, append-assoc, List·Memᴰ, List·Memᴰ·head, List·Memᴰ·tail, List·Memᴰ·append-cases, List·Memᴰ·cases-cons}
+use Rattle.algebra.proofs.Choice.{choice, cond-ap}
 use Rattle.verdicts.specs.Walking.{those}
 
 module _ {X : Type 0} where
@@ -29,6 +29,17 @@ module _ {X : Type 0} where
   unfolding those
   those-cong [] h = refl
   those-cong (x ∷ xs) h = rw (h x (List·Memᴰ·head refl), those-cong xs (λ y m. h y (List·Memᴰ·tail m)))
+
+  pub those-member : (has : X → Bool) (xs : List X) (x : X) → List·Memᴰ x (those has xs) → List·Memᴰ x xs
+  unfolding those
+  those-member has [] x m = m
+  those-member has (y ∷ ys) x m = choice (λ l. List·Memᴰ x l → List·Memᴰ x (y ∷ ys)) (has y) (y ∷ those has ys) (those has ys)
+      (λ t n. elim (List·Memᴰ·cases-cons n) [
+        | inl e ↦ List·Memᴰ·head e
+        | inr r ↦ List·Memᴰ·tail (those-member has ys x r)
+      ])
+      (λ t n. List·Memᴰ·tail (those-member has ys x n))
+      m
 
   pub those-none : (xs : List X) → those (λ x. false) xs ≡ []
   unfolding those
@@ -57,3 +68,9 @@ module _ {X Y : Type 0} where
   unfolding flatMap
   flatMap-one [] h = refl
   flatMap-one (x ∷ xs) h = rw (h x (List·Memᴰ·head refl), flatMap-one xs (λ y m. h y (List·Memᴰ·tail m)))
+
+  -- ---- what each member's image gives, where that is known of the member itself
+  pub flatMap-map : {Z : Type 0} (f : X → Y) (g : Y → List Z) (xs : List X) {h : X → List Z} → ((x : X) → List·Memᴰ x xs → g (f x) ≡ h x) → flatMap g (map f xs) ≡ flatMap h xs
+  unfolding flatMap
+  flatMap-map f g [] e = refl
+  flatMap-map f g (x ∷ xs) e = rw (e x (List·Memᴰ·head refl), flatMap-map f g xs (λ y m. e y (List·Memᴰ·tail m)))

@@ -36,13 +36,13 @@ joined c u a v b (neither x y z) (odd r s t) = simp (x, y, z, r, s, t)
 joined c u a v b (neither x y z) (neither r s t) = simp (x, y, z, r, s, t)
 
 -- ---- one record tells its cell and its colour
-record Told (r c level a b : ℕ) : Type 0 where
-  depth : r / 65_536 ≡ level
-  across : r / 4 % 128 ≡ a
-  up : r / 512 % 128 ≡ b
-  painted : r % 4 ≡ c
+pub record Told (r c level a b : ℕ) : Type 0 where
+  pub depth : r / 65_536 ≡ level
+  pub across : r / 4 % 128 ≡ a
+  pub up : r / 512 % 128 ≡ b
+  pub painted : r % 4 ≡ c
 
-told : (c level a b : ℕ) → c ≤ 3 → a < 128 → b < 128 → Told (record-of c level a b) c level a b
+pub told : (c level a b : ℕ) → c ≤ 3 → a < 128 → b < 128 → Told (record-of c level a b) c level a b
 told c level a b h i j = record { depth = omega arith; across = omega arith; up = omega arith; painted = omega arith }
 
 module _ (k x y : ℕ) where

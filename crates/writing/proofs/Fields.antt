@@ -1,11 +1,10 @@
 -- Fields and lines: the room that they take, and lines put field by field.
-use mathlib.Core.Path.{refl}
 use mathlib.Core.List.{List, [], _∷_, _++_, append-assoc}
 use Prim.Native.Nat.{ℕ, _+_, _/_, _%_, _^_, _≤_, _<_}
 use native.Mathlib.Omega.{arith}
 use lib.Dec.{lit≤}
 use lib.ListN.{length, length-append}
-use Rattle.page.specs.ListingText.{decimal, mark, line-text, record-line}
+use Rattle.page.specs.ListingText.{decimal, mark, record-line}
 use Rattle.page.proofs.Decimals.{decimal-short}
 use Rattle.writing.specs.Steps.{record-text, Put}
 use Rattle.writing.proofs.Puts.{put-two}
@@ -21,6 +20,9 @@ pub column-short : (n : ℕ) → length (decimal (n % 128)) ≤ 3
 column-short n = decimal-short 3 (n % 128) (lit≤ tt) (omega arith)
 
 -- a field is a number and the byte that ends it
+pub field-room : (at n m : ℕ) {room : ℕ} → length (decimal n) ≤ m → at + m + 1 ≤ room → at + length (decimal n) + 1 ≤ room
+field-room at n m l h = omega arith
+
 pub field-end : (n e m : ℕ) {at r : ℕ} {old now : List ℕ} → length (decimal n) ≤ m → Put at (decimal n ++ (e ∷ [])) old now r → r ≤ at + m + 1
 field-end n e m l h = omega (arith, h .put .ends, length-append (decimal n) (e ∷ []))
 

@@ -5,13 +5,22 @@ use Prim.Native.Nat.{ℕ, _+_, _≤_, _<_}
 use native.Mathlib.Nat as Nat
 use native.Mathlib.Numerals.{add-one}
 use native.Mathlib.Omega.{arith}
-use lib.ListN.{length, getD, take}
-use lib.Seq.{take-suc, take-all, length-take-le}
+use lib.ListN.{length, getD, take, drop}
+use lib.Seq.{take-suc, take-all, length-take-le, sets-eq}
 use Rattle.algebra.proofs.Written.{written-two, written-length}
 use Rattle.writing.specs.Steps.{Put}
 
 pub put-two : {xs ys l m n : List ℕ} {a b r : ℕ} → Put a xs l m b → Put b ys m n r → Put a (xs ++ ys) l n r
 put-two h j = record { put = written-two (h .put) (j .put); fits = omega (arith, written-length (h .put)) }
+
+pub put-length : {xs old now : List ℕ} {at r : ℕ} → Put at xs old now r → length now ≡ length old
+put-length h = written-length (h .put)
+
+-- what is put at the beginning of a place stands before the later entries as they were
+pub put-over : {xs old now : List ℕ} {r : ℕ} → Put 0 xs old now r → (r ≡ length xs) × (now ≡ xs ++ drop (length xs) old)
+put-over {xs} {old} h =
+    let e : 0 + length xs ≡ length xs = Nat.zero-add (length xs) in
+    (h .put .ends ∙ e, h .put .written ∙ sets-eq xs old 0 (omega (arith, h .put .ends, h .fits)) ∙ ap (λ n. xs ++ drop n old) e)
 
 -- ---- what f gives for each of the first i members of xs
 flatMap-++ : (f : ℕ → List ℕ) (xs ys : List ℕ) → flatMap f (xs ++ ys) ≡ flatMap f xs ++ flatMap f ys
@@ -37,9 +46,6 @@ module _ {f : ℕ → List ℕ} {xs : List ℕ} {at : ℕ} {old : List ℕ} wher
 
   pub putting-end : {place : List ℕ} {end i : ℕ} → length xs ≤ i → Putting f xs at old place end i → Put at (flatMap f xs) old place end
   putting-end {i = i} h p = rw (take-all i xs h) at (p .so-far)
-
-pub put-length : {xs old now : List ℕ} {at r : ℕ} → Put at xs old now r → length now ≡ length old
-put-length h = written-length (h .put)
 
 -- ---- each member as it is
 pub each-byte : (xs : List ℕ) → flatMap (λ b. b ∷ []) xs ≡ xs

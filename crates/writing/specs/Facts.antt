@@ -1,4 +1,4 @@
--- What is written of a listing is the page's text, as a statement. That it holds is proofs/Told.
+-- What is written of a listing is the page's text, as a statement. That it holds is proofs/Tells.
 use mathlib.Core.Path.{_≡_}
 use mathlib.Core.List.{_++_}
 use Prim.Native.Nat.{ℕ, _≤_}

@@ -1,13 +1,10 @@
+-- `writing::write_listing` meets its contract.
 use borrow.Author.Needs.{needs}
 use native.Mathlib.Omega.{arith}
 use Rattle.page.specs.ListingText.{total-line}
 use Rattle.writing.proofs.Puts.{put-two}
 use Rattle.writing.proofs.write_listing.Statement.{statement}
 use Rattle.writing.proofs.write_listing.Tie as tie
-use Rattle.writing.proofs.write_listing.Reads as reads
-use Rattle.writing.proofs.write_listing.Lts as lts
-use Rattle.writing.proofs.lines.put_line.Reads as put-line-reads
-use Rattle.writing.proofs.lines.put_records.Reads as put-records-reads
 
 put-records-requires : tie.Need-put-records-requires
 put-records-requires c κs = search needs

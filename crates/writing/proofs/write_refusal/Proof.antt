@@ -1,10 +1,8 @@
+-- `writing::write_refusal` meets its contract.
 use borrow.Author.Needs.{needs}
 use Rattle.page.specs.ListingText.{refused-line}
 use Rattle.writing.proofs.write_refusal.Statement.{statement}
 use Rattle.writing.proofs.write_refusal.Tie as tie
-use Rattle.writing.proofs.write_refusal.Reads as reads
-use Rattle.writing.proofs.write_refusal.Lts as lts
-use Rattle.writing.proofs.lines.put_line.Reads as put-line-reads
 
 slice-aggregate-put-line : tie.Need-slice-aggregate-put-line
 slice-aggregate-put-line c = search needs

@@ -1,18 +1,14 @@
+-- `writing::lines::mark_of` meets its contract.
 use borrow.Author.Tests.{ne-eqb}
 use Rattle.writing.proofs.lines.mark_of.Statement.{statement}
 use Rattle.writing.proofs.lines.mark_of.Tie as tie
-use Rattle.writing.proofs.lines.mark_of.Reads as reads
-use Rattle.writing.proofs.lines.mark_of.Lts as lts
 
--- src/lines.rt:16:1
 returns : tie.Need-returns
 returns c = rw (c .match .keys1)
 
--- src/lines.rt:16:1
 returns-2 : tie.Need-returns-2
 returns-2 c = rw (c .match .keys2)
 
--- src/lines.rt:16:1
 returns-3 : tie.Need-returns-3
 returns-3 c = simp (ne-eqb _ 2 (c .match .rest .0 .1), ne-eqb _ 3 (c .match .rest .1))
 

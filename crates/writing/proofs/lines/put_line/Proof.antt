@@ -1,15 +1,11 @@
+-- `writing::lines::put_line` meets its contract: 23 bytes are room for two numbers of ten digits, and what parts and ends them.
 use borrow.Author.Needs.{needs}
 use mathlib.Core.List.{append-assoc}
 use native.Mathlib.Omega.{arith}
 use Rattle.writing.proofs.Puts.{put-two}
-use Rattle.writing.proofs.Fields.{number-short, field-end}
+use Rattle.writing.proofs.Fields.{number-short, field-room, field-end}
 use Rattle.writing.proofs.lines.put_line.Statement.{statement}
 use Rattle.writing.proofs.lines.put_line.Tie as tie
-use Rattle.writing.proofs.lines.put_line.Reads as reads
-use Rattle.writing.proofs.lines.put_line.Lts as lts
-use Rattle.writing.proofs.lines.put_word.Reads as put-word-reads
-use Rattle.writing.proofs.number.put_byte.Reads as put-byte-reads
-use Rattle.writing.proofs.number.put_field.Reads as put-field-reads
 
 put-word-requires : tie.Need-put-word-requires
 put-word-requires c κs = search needs
@@ -18,10 +14,18 @@ put-byte-requires : tie.Need-put-byte-requires
 put-byte-requires c κs = search needs
 
 put-field-requires : tie.Need-put-field-requires
-put-field-requires c κs = omega (arith, number-short _ (c .before .before .before .before .before .before .before .before .before .before .before .fits .a .fits))
+put-field-requires c κs =
+    let x₂ = c .before .before .before in
+    let x₁ = x₂ .before .before .before .before in
+    field-room _ _ _ (number-short _ (x₁ .before .before .before .before .fits .a .fits)) (omega arith)
 
 put-field-requires-2 : tie.Need-put-field-requires-2
-put-field-requires-2 c κs = omega (arith, field-end _ _ _ (number-short _ (c .before .before .before .before .before .before .before .before .before .before .before .before .before .before .before .fits .a .fits)) (c .before .before .before .put-field .ensures), number-short _ (c .before .before .before .before .before .before .before .before .before .before .before .before .before .before .before .fits .b .fits))
+put-field-requires-2 c κs =
+    let x₃ = c .before .before .before in
+    let x₂ = x₃ .before .before .before .before in
+    let x₁ = x₂ .before .before .before .before in
+    let s = x₁ .before .before .before .before in
+    field-room _ _ _ (number-short _ (s .fits .b .fits)) (omega (arith, field-end _ _ _ (number-short _ (s .fits .a .fits)) (x₃ .put-field .ensures)))
 
 same-length : tie.Need-same-length
 same-length c = search needs

@@ -1,33 +1,29 @@
+-- `writing::lines::put_record` meets its contract: 16 bytes are room for a level of five digits, a column and a row of three, the mark, and what parts and ends them.
 use borrow.Author.Needs.{needs}
-use Prim.Native.Nat.{_+_, _/_, _≤_}
+use Prim.Native.Nat.{_+_, _≤_}
 use native.Mathlib.Omega.{arith}
-use Rattle.writing.proofs.Fields.{level-short, column-short, field-end, put-cells}
+use Rattle.writing.proofs.Fields.{level-short, column-short, field-room, field-end, put-cells}
 use Rattle.writing.proofs.lines.put_record.Statement.{statement}
 use Rattle.writing.proofs.lines.put_record.Tie as tie
-use Rattle.writing.proofs.lines.put_record.Reads as reads
-use Rattle.writing.proofs.lines.put_record.Lts as lts
-use Rattle.writing.proofs.lines.mark_of.Reads as mark-of-reads
-use Rattle.writing.proofs.number.put_byte.Reads as put-byte-reads
-use Rattle.writing.proofs.number.put_field.Reads as put-field-reads
 
 -- where each of the three fields ends
 first-end : (c : tie.After-put-field) → c .put-field .result ≤ c .before .before .before .args .at + 6
 first-end c = omega (arith, field-end _ _ _ (level-short _ (c .before .before .before .fits .item .fits)) (c .put-field .ensures))
 
-second-end : (c : tie.After-put-field2) → c .put-field2 .result ≤ c .before .before .before .before .before .before .before .args .at + 10
-second-end c = omega (arith, first-end (c .before .before .before .before), field-end _ _ _ (column-short (c .before .before .before .before .before .before .before .args .item / 4)) (c .put-field2 .ensures))
+second-end : (c : tie.After-put-field2) → let x₁ = c .before .before .before .before in c .put-field2 .result ≤ x₁ .before .before .before .args .at + 10
+second-end c = omega (arith, first-end (c .before .before .before .before), field-end _ _ _ (column-short _) (c .put-field2 .ensures))
 
-third-end : (c : tie.After-put-field3) → c .put-field3 .result ≤ c .before .before .before .before .before .before .before .before .before .before .before .args .at + 14
-third-end c = omega (arith, second-end (c .before .before .before .before), field-end _ _ _ (column-short (c .before .before .before .before .before .before .before .before .before .before .before .args .item / 512)) (c .put-field3 .ensures))
+third-end : (c : tie.After-put-field3) → let x₁ = c .before .before .before .before .before .before .before .before in c .put-field3 .result ≤ x₁ .before .before .before .args .at + 14
+third-end c = omega (arith, second-end (c .before .before .before .before), field-end _ _ _ (column-short _) (c .put-field3 .ensures))
 
 put-field-requires : tie.Need-put-field-requires
-put-field-requires c κs = omega (arith, level-short _ (c .before .before .fits .item .fits))
+put-field-requires c κs = field-room _ _ _ (level-short _ (c .before .before .fits .item .fits)) (omega arith)
 
 put-field-requires-2 : tie.Need-put-field-requires-2
-put-field-requires-2 c κs = omega (arith, first-end (c .before .before .before), column-short (c .before .before .before .before .before .before .args .item / 4))
+put-field-requires-2 c κs = field-room _ _ _ (column-short _) (omega (arith, first-end (c .before .before .before)))
 
 put-field-requires-3 : tie.Need-put-field-requires-3
-put-field-requires-3 c κs = omega (arith, second-end (c .before .before .before), column-short (c .before .before .before .before .before .before .before .before .before .before .args .item / 512))
+put-field-requires-3 c κs = field-room _ _ _ (column-short _) (omega (arith, second-end (c .before .before .before)))
 
 mark-of-requires : tie.Need-mark-of-requires
 mark-of-requires c κs = search needs

@@ -1,3 +1,4 @@
+-- `writing::lines::put_records` meets its contract: 16 bytes are room for each record.
 use Prim.Native.Nat.{_*_, _-_, _≤_}
 use native.Mathlib.Omega.{arith}
 use lib.ListN.{length}
@@ -6,9 +7,6 @@ use Rattle.writing.proofs.Puts.{Putting, putting-start, putting-next, p
 use Rattle.writing.proofs.Fields.{record-short}
 use Rattle.writing.proofs.lines.put_records.Statement.{statement}
 use Rattle.writing.proofs.lines.put_records.Tie as tie
-use Rattle.writing.proofs.lines.put_records.Reads as reads
-use Rattle.writing.proofs.lines.put_records.Lts as lts
-use Rattle.writing.proofs.lines.put_record.Reads as put-record-reads
 
 abbrev Inv-loop : tie.InvT-loop
 Inv-loop place₀ records end₀ i₀ place end i = Putting record-text records 0 place₀ place end i × (end ≤ 16 * i)
@@ -37,8 +35,9 @@ loop-less c = omega arith
 loop-again : tie.Need-loop-again Inv-loop μ-loop
 loop-again c =
     let e = c .before .before .put-record .ensures in
-    let l = c .before .before .before .before .before .before .loop in
-    (putting-next (c .before .before .before .before .before .loop-test .taken) (l .inv .0) e, omega (arith, e .put .ends, record-short _ (c .before .before .before .shared-slice-known2 .given (l .i) .fits)))
+    let turn = c .before .before .before .before .before in
+    let l = turn .before .loop in
+    (putting-next (turn .loop-test .taken) (l .inv .0) e, omega (arith, e .put .ends, record-short _ (c .before .before .before .shared-slice-known2 .given (l .i) .fits)))
 
 same-length : tie.Need-same-length Inv-loop μ-loop
 same-length c = put-length (c .before .loop .inv .0 .so-far)

@@ -1,3 +1,4 @@
+-- `writing::number::put_number` meets its contract. It calls itself for the tenth of the number, so the number is the measure.
 use borrow.Author.Needs.{needs}
 use native.Mathlib.Omega.{arith}
 use Rattle.page.proofs.Decimals.{decimal-one, decimal-more, digits-one, digits-more}

@@ -1,11 +1,8 @@
+-- `writing::number::put_field` meets its contract.
 use borrow.Author.Needs.{needs}
 use Rattle.writing.proofs.Puts.{put-two}
 use Rattle.writing.proofs.number.put_field.Statement.{statement}
 use Rattle.writing.proofs.number.put_field.Tie as tie
-use Rattle.writing.proofs.number.put_field.Reads as reads
-use Rattle.writing.proofs.number.put_field.Lts as lts
-use Rattle.writing.proofs.number.put_byte.Reads as put-byte-reads
-use Rattle.writing.proofs.number.put_number.Reads as put-number-reads
 
 put-number-requires : tie.Need-put-number-requires
 put-number-requires c κs = search needs
