@@ -42,10 +42,10 @@ pub fn put_records(place: &mut [u8], records: &[u32]) -> usize
     ensures { λ r. ⌜ Put 0 (records-text (now (records .entry))) (now (place .entry)) (now (place .exit)) r × (r ≤ 16 * length (now (records .entry))) ⌝ }
 {
     let mut end = 0;
-    let mut i = 0;
-    while i < records.len() {
-        end = put_record(place, end, records[i]);
-        i += 1;
+    let mut n = 0;
+    while n < records.len() {
+        end = put_record(place, end, records[n]);
+        n += 1;
     }
     end
 }

@@ -9,10 +9,10 @@ use Rattle.writing.proofs.lines.put_records.Statement.{statement}
 use Rattle.writing.proofs.lines.put_records.Tie as tie
 
 abbrev Inv-loop : tie.InvT-loop
-Inv-loop place₀ records end₀ i₀ place end i = Putting record-text records 0 place₀ place end i × (end ≤ 16 * i)
+Inv-loop place₀ records end₀ n₀ place end n = Putting record-text records 0 place₀ place end n × (end ≤ 16 * n)
 
 abbrev μ-loop : tie.MeasureT-loop
-μ-loop place₀ records end₀ i₀ place end i = length records - i
+μ-loop place₀ records end₀ n₀ place end n = length records - n
 
 loop-holds : tie.Need-loop-holds Inv-loop μ-loop
 loop-holds c = (putting-start (omega arith), omega arith)
@@ -26,8 +26,8 @@ shared-slice-read-put-record c = omega arith
 put-record-requires : tie.Need-put-record-requires Inv-loop μ-loop
 put-record-requires c κs = let p = c .before .before .before .loop .inv .0 in omega (arith, put-length (p .so-far))
 
-add-i : tie.Need-add-i Inv-loop μ-loop
-add-i c = omega arith
+add-n : tie.Need-add-n Inv-loop μ-loop
+add-n c = omega arith
 
 loop-less : tie.Need-loop-less Inv-loop μ-loop
 loop-less c = omega arith
@@ -37,7 +37,7 @@ loop-again c =
     let e = c .before .before .put-record .ensures in
     let turn = c .before .before .before .before .before in
     let l = turn .before .loop in
-    (putting-next (turn .loop-test .taken) (l .inv .0) e, omega (arith, e .put .ends, record-short _ (c .before .before .before .shared-slice-known2 .given (l .i) .fits)))
+    (putting-next (turn .loop-test .taken) (l .inv .0) e, omega (arith, e .put .ends, record-short _ (c .before .before .before .shared-slice-known2 .given (l .n) .fits)))
 
 same-length : tie.Need-same-length Inv-loop μ-loop
 same-length c = put-length (c .before .loop .inv .0 .so-far)
@@ -56,7 +56,7 @@ put-records-spec =
     mul-put-record
     shared-slice-read-put-record
     put-record-requires
-    add-i
+    add-n
     loop-less
     loop-again
     same-length
