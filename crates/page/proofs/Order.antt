@@ -6,7 +6,8 @@ use native.Mathlib.Nat as Nat
 use native.Mathlib.Numerals.{add-one}
 use native.Mathlib.Omega.{arith}
 use lib.IntN.{ℤ}
-use lib.ListN.{length, length-append, length-map}
+use lib.ListN.{length, take, length-append, length-map}
+use lib.Seq.{take-at}
 use Rattle.algebra.specs.Sum.{span, _⋯_}
 use Rattle.algebra.specs.Triangle.{row-start}
 use Rattle.algebra.proofs.Run.{⋯-run, ⋯-member, length-run, span-none, span-next}
@@ -56,3 +57,7 @@ module _ (d : ℕ) (A : ℕ → ℕ → ℤ) where
 pub order-cong : (d : ℕ) {A B : ℕ → ℕ → ℤ} → ((i j : ℕ) → i + j ≤ d → A i j ≡ B i j) → in-order d A ≡ in-order d B
 unfolding in-order
 order-cong d h = flatMap-cong (0 ⋯ d) (λ i m. map-cong (0 ⋯ (d - i)) (λ j l. let x = ⋯-member 0 d m in let y = ⋯-member 0 (d - i) l in h i j (omega arith)))
+
+-- ---- the coefficients before any others
+pub order-first : (d : ℕ) (A : ℕ → ℕ → ℤ) (rest : List ℤ) → take (count d) (in-order d A ++ rest) ≡ in-order d A
+order-first d A rest = take-at (in-order d A) rest (count d) (order-long d A)

@@ -5,12 +5,11 @@ use Prim.Native.Nat.{ℕ, _-_, _≤_}
 use native.Mathlib.Omega.{arith}
 use lib.IntN.{ℤ, pos}
 use lib.ListN.{length, getD, take, replicate, length-append}
-use lib.Seq.{take-at}
 use Rattle.page.specs.Sheet.{count, sheet-of}
 use Rattle.page.specs.Refusals.{refusal, unless}
 use Rattle.page.specs.SheetText.{Term, coefficient-of, Said, in-order, to-read, well-formed, refused, accepted, outcome-of}
 use Rattle.page.specs.Steps.{mode-refusal}
-use Rattle.page.proofs.Order.{order-long, order-cong}
+use Rattle.page.proofs.Order.{order-long, order-cong, order-first}
 use Rattle.page.proofs.Rows.{unless-refused, unless-none}
 use Rattle.page.proofs.TextRows.{read-rows}
 use Rattle.reading.specs.declared.Head.{Head}
@@ -43,7 +42,7 @@ module _ (h : Head) (values : List ℤ) (ts : List Term) (held : (i j : ℕ) →
   pub number-is : {n : ℕ} → n ≡ mode-refusal (sheet-of (h .d) (take (count (h .d)) coefficients) (h .x) (h .y) (h .s) (h .k)) (h .mode) → n ≡ refusal (to-read (said-by h ts))
   number-is e =
       e ∙ ap (λ l. mode-refusal (sheet-of (h .d) l (h .x) (h .y) (h .s) (h .k)) (h .mode))
-      (ap (take (count (h .d))) gathered-is ∙ take-at (in-order (h .d) (coefficient-of ts)) (replicate (45 - count (h .d)) (pos 0)) (count (h .d)) (order-long (h .d) (coefficient-of ts)))
+      (ap (take (count (h .d))) gathered-is ∙ order-first (h .d) (coefficient-of ts) (replicate (45 - count (h .d)) (pos 0)))
       ∙ sym (read-rows (said-by h ts))
 
   -- the whole sheet

@@ -1,0 +1,3 @@
+pub mod Kept
+pub mod Telling
+pub mod Promises

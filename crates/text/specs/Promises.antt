@@ -1,0 +1,18 @@
+-- The promise of `answer`, as a statement about an outcome: the answer r, and the place afterwards. That nothing else satisfies it is proofs/Promises.
+use mathlib.Core.Path.{_≡_}
+use mathlib.Core.List.{List}
+use Prim.Native.Nat.{ℕ, _≤_}
+use lib.ListN.{length, take}
+use Rattle.page.specs.ListingText.{written-text}
+use Rattle.text.specs.Answers.{room, written-length, written-place}
+
+abbrev pub AnswerPromise : List ℕ → List ℕ → ℕ → List ℕ → Type 0
+AnswerPromise text old r now = (r ≡ written-length text (length old)) × (now ≡ written-place text old)
+
+-- no second outcome satisfies it
+abbrev pub OneAnswer : Type 0
+OneAnswer = (text old : List ℕ) (r t : ℕ) (now after : List ℕ) → AnswerPromise text old r now → AnswerPromise text old t after → (r ≡ t) × (now ≡ after)
+
+-- where there is room, the first r bytes of the place are the page's text
+abbrev pub WrittenText : Type 0
+WrittenText = (text old : List ℕ) (r : ℕ) (now : List ℕ) → AnswerPromise text old r now → room ≤ length old → take r now ≡ written-text text
