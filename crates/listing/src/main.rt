@@ -26,20 +26,36 @@ fn place_space() -> [u8; 262172]
     [0; 262172]
 }
 
+// Reads once.
+fn read_more(part: &mut [u8]) -> Input
+    ensures { λ r. ⌜ counted r ≤ length (now (part .exit)) ⌝ }
+{
+    let got = libc::read(STDIN_FILENO, part);
+    if got < 0 {
+        return Input::Failed;
+    }
+    let n = io::count(got, part);
+    Input::Bytes(n)
+}
+
 // Fills the place from standard input, until it is full or the input ends.
 fn read_all(place: &mut [u8]) -> Input
     ensures { λ r. ⌜ counted r ≤ length (now (place .exit)) ⌝ }
 {
     let mut at = 0;
     while at < place.len() {
-        let got = libc::read(STDIN_FILENO, &mut place[at..]);
-        if got < 0 {
-            return Input::Failed;
+        let input = read_more(&mut place[at..]);
+        match input {
+            Input::Bytes(n) => {
+                if n == 0 {
+                    return Input::Bytes(at);
+                }
+                at += n;
+            }
+            Input::Failed => {
+                return Input::Failed;
+            }
         }
-        if got == 0 {
-            return Input::Bytes(at);
-        }
-        at += got as usize;
     }
     Input::Bytes(at)
 }
