@@ -12,7 +12,7 @@ from cases import EDGE, LEAST31, MOST31, Sheet, accepted, heavy, limits, near
 from second_text import LONGEST, START, WHOLE, written
 
 # the longest text that the program takes
-CEILING = 1_048_576
+CEILING = 262_144
 
 Case = collections.namedtuple("Case", "kind text number line", defaults=(None, None))
 

@@ -1,6 +1,5 @@
-// Whole numbers in bytes and words. A negative number is coded by its top bit and the number of steps that it lies below -1, so that
-// every number of its type has one code and every code is a number.
-ghost use Prim.Native.Nat.{_<_, _≤_};
+// The numbers of a case, from its words. A negative number is coded as in `words`.
+ghost use Prim.Native.Nat.{_<_};
 
 // A byte's number.
 fn wide(byte: u8) -> u32
@@ -42,26 +41,5 @@ pub fn long_signed(code: u64) -> i64 {
         code as i64
     } else {
         !((code - 9223372036854775808) as i64)
-    }
-}
-
-pub fn code(number: i64) -> u64 {
-    if number < 0 {
-        9223372036854775808 + (!number as u64)
-    } else {
-        number as u64
-    }
-}
-
-// Puts a number at eight places of an answer, the lowest byte first.
-pub fn put(out: &mut [u8; 40], at: usize, number: u64)
-    requires { ⌜ at ≤ 32 ⌝ }
-{
-    let mut rest = number;
-    let mut i = 0;
-    while i < 8 {
-        out[at + i] = (rest % 256) as u8;
-        rest /= 256;
-        i += 1;
     }
 }

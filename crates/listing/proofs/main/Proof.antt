@@ -6,62 +6,44 @@ use lib.Seq.{length-take-le}
 use borrow.Author.Needs.{needs}
 use Rattle.listing.proofs.main.Statement.{statement}
 use Rattle.listing.proofs.main.Tie as tie
-use Rattle.listing.proofs.main.Reads as reads
-use Rattle.listing.proofs.main.Lts as lts
-use Rattle.io.proofs.write_all.Reads as write-all-reads
-use Rattle.listing.proofs.read_all.Reads as read-all-reads
-use Rattle.listing.proofs.respond.Reads as respond-reads
-use Rattle.listing.proofs.text_space.Reads as text-space-reads
 
 -- what was read lies within the space
 came : (c : tie.After-input) → c .input .given .0 .0 ≤ length (c .before .before .before .read-all .last .0)
 came c = rw (c .input .given .1) at (c .before .before .before .read-all .ensures)
 
--- src/main.rt:76:21
 text-space-requires : tie.Need-text-space-requires
 text-space-requires c κs = search needs
 
--- src/main.rt:77:26
 slice-aggregate-read-all : tie.Need-slice-aggregate-read-all
 slice-aggregate-read-all c = search needs
 
--- src/main.rt:77:9
 read-all-requires : tie.Need-read-all-requires
 read-all-requires c κs = search needs
 
--- src/main.rt:79:22
 enum-known-input : tie.Need-enum-known-input
 enum-known-input c = search needs
 
--- src/main.rt:79:36
 array-share-prefix-space : tie.Need-array-share-prefix-space
 array-share-prefix-space c = came (c .before)
 
--- src/main.rt:79:36
 slice-aggregate-respond : tie.Need-slice-aggregate-respond
 slice-aggregate-respond c = sym (length-take-le _ _ (came (c .before .before)))
 
--- src/main.rt:79:28
 respond-requires : tie.Need-respond-requires
 respond-requires c κs = search needs
 
--- src/main.rt:81:42
 enum-told : tie.Need-enum-told
 enum-told c = search needs
 
--- src/main.rt:81:42
 slice-aggregate-write-all : tie.Need-slice-aggregate-write-all
 slice-aggregate-write-all c = search needs
 
--- src/main.rt:81:13
 write-all-requires : tie.Need-write-all-requires
 write-all-requires c κs = search needs
 
--- src/main.rt:75:1
 returns : tie.Need-returns
 returns c = search needs
 
--- src/main.rt:75:1
 returns-2 : tie.Need-returns-2
 returns-2 c = search needs
 

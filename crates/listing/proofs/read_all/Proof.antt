@@ -8,9 +8,6 @@ use borrow.Rule.Slice.PartMut.{same-len-mid, mid-len}
 use lib.ListN.{length}
 use Rattle.listing.proofs.read_all.Statement.{statement}
 use Rattle.listing.proofs.read_all.Tie as tie
-use Rattle.listing.proofs.read_all.Reads as reads
-use Rattle.listing.proofs.read_all.Lts as lts
-use Rattle.listing.proofs.read_more.Reads as read-more-reads
 
 abbrev Inv-loop : tie.InvT-loop
 Inv-loop place₀ at₀ place at = (at ≤ length place) × (length place ≡ length place₀)
@@ -25,70 +22,54 @@ more c =
     let n = rw (c .input .given .1) at (r .read-more .ensures) in let k = r .read-more .kept .0 in let m = mid-len (l .at) (length (l .place)) (l .place) (Nat.le-refl (length (l .place))) in
     omega (arith, n, k, m)
 
--- src/main.rt:46:5
 loop-holds : tie.Need-loop-holds Inv-loop μ-loop
 loop-holds c = search needs
 
--- src/main.rt:47:31
 sub-read-more : tie.Need-sub-read-more Inv-loop μ-loop
 sub-read-more c = search needs
 
--- src/main.rt:47:31
 part-read-more-start : tie.Need-part-read-more-start Inv-loop μ-loop
 part-read-more-start c = search needs
 
--- src/main.rt:47:31
 part-read-more-end : tie.Need-part-read-more-end Inv-loop μ-loop
 part-read-more-end c = search needs
 
--- src/main.rt:47:13
 read-more-requires : tie.Need-read-more-requires Inv-loop μ-loop
 read-more-requires c κs = search needs
 
--- src/main.rt:49:26
 enum-known-input : tie.Need-enum-known-input Inv-loop μ-loop
 enum-known-input c = search needs
 
--- src/main.rt:51:21
 same-length : tie.Need-same-length Inv-loop μ-loop
 same-length c = search needs
 
--- src/main.rt:51:21
 returns : tie.Need-returns Inv-loop μ-loop
 returns c = search needs
 
--- src/main.rt:53:17
 add-at : tie.Need-add-at Inv-loop μ-loop
 add-at c = let m = more (c .before .before) in record { fits = omega (arith, m) }
 
--- src/main.rt:46:5
 loop-less : tie.Need-loop-less Inv-loop μ-loop
 loop-less c = search needs
 
--- src/main.rt:46:5
 loop-again : tie.Need-loop-again Inv-loop μ-loop
 loop-again c =
     let i = c .before .before in let r = i .before .before .before .before in let l = r .before .before .before .loop in
     let e = same-len-mid (l .at) (length (l .place) - l .at) (l .place) (r .read-more .last .0) (r .read-more .kept .0) in let m = more i in
     (omega (arith, e, m), e ∙ l .inv .1)
 
--- src/main.rt:56:17
 enum-told : tie.Need-enum-told Inv-loop μ-loop
 enum-told c = search needs
 
--- src/main.rt:56:17
 same-length-2 : tie.Need-same-length-2 Inv-loop μ-loop
 same-length-2 c = search needs
 
--- src/main.rt:56:17
 returns-2 : tie.Need-returns-2 Inv-loop μ-loop
 returns-2 c = search needs
 
--- src/main.rt:42:1
 same-length-3 : tie.Need-same-length-3 Inv-loop μ-loop
 same-length-3 c = search needs
 
--- src/main.rt:42:1
 returns-3 : tie.Need-returns-3 Inv-loop μ-loop
 returns-3 c = search needs
 

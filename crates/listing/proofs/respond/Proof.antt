@@ -8,53 +8,38 @@ use Rattle.text.proofs.Promises.{lies-within}
 use borrow.Author.Needs.{needs}
 use Rattle.listing.proofs.respond.Statement.{statement}
 use Rattle.listing.proofs.respond.Tie as tie
-use Rattle.listing.proofs.respond.Reads as reads
-use Rattle.listing.proofs.respond.Lts as lts
-use Rattle.io.proofs.write_all.Reads as write-all-reads
-use Rattle.listing.proofs.place_space.Reads as place-space-reads
-use Rattle.text.proofs.answer.Reads as answer-reads
 
 -- what is written lies within the place
 enough : (c : tie.After-answer) → c .answer .result ≤ length (c .answer .last .1 .0)
 enough c = lies-within _ (c .before .before .place-space .result) (let e = c .before .before .place-space .ensures in omega (arith, e)) (c .answer .ensures)
 
--- src/main.rt:49:21
 place-space-requires : tie.Need-place-space-requires
 place-space-requires c κs = search needs
 
--- src/main.rt:50:33
 slice-aggregate-answer : tie.Need-slice-aggregate-answer
 slice-aggregate-answer c = search needs
 
--- src/main.rt:50:9
 answer-requires : tie.Need-answer-requires
 answer-requires c κs = search needs
 
--- src/main.rt:51:38
 array-share-prefix-place : tie.Need-array-share-prefix-place
 array-share-prefix-place c = enough (c .before)
 
--- src/main.rt:51:38
 slice-aggregate-write-all : tie.Need-slice-aggregate-write-all
 slice-aggregate-write-all c = sym (length-take-le _ _ (enough (c .before .before)))
 
--- src/main.rt:51:9
 write-all-requires : tie.Need-write-all-requires
 write-all-requires c κs = search needs
 
--- src/main.rt:54:13
 slice-aggregate-write-all-2 : tie.Need-slice-aggregate-write-all-2
 slice-aggregate-write-all-2 c = search needs
 
--- src/main.rt:52:9
 write-all-requires-2 : tie.Need-write-all-requires-2
 write-all-requires-2 c κs = search needs
 
--- src/main.rt:48:1
 returns : tie.Need-returns
 returns c = search needs
 
--- src/main.rt:48:1
 returns-2 : tie.Need-returns-2
 returns-2 c = search needs
 

@@ -1,9 +1,9 @@
--- `compare::coding::code` is safe: by the test, the number is one that the two casts take. Assumes nothing.
+-- `words::code` is safe: by the test, the number is one that the two casts take. Assumes nothing.
 use borrow.Author.Needs.{needs}
 use native.Mathlib.Omega.{arith}
-use Rattle.compare.proofs.Signed.{not-negative, negative}
-use Rattle.compare.proofs.coding.code.Statement.{statement}
-use Rattle.compare.proofs.coding.code.Tie as tie
+use Rattle.words.proofs.Signed.{not-negative, negative}
+use Rattle.words.proofs.code.Statement.{statement}
+use Rattle.words.proofs.code.Tie as tie
 
 cast-result : tie.Need-cast-result
 cast-result c = let h = negative (c .before .args .number) (c .before .fits .number) (c .if1 .taken) in (h .0, record { fits = omega (arith, h .1) })

@@ -1,4 +1,4 @@
--- What `coding::code` asks of a signed number. One that is not negative fits the unsigned type; of a negative one, the number of steps that
+-- What `code` asks of a signed number. One that is not negative fits the unsigned type; of a negative one, the number of steps that
 -- it lies below -1 does, with a bit to spare. Assumes nothing.
 use Prim.Native.Nat.{ℕ, suc, _-_, _<_}
 use mathlib.Core.Bool.{true, false, true≢false}
