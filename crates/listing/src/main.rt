@@ -20,12 +20,6 @@ fn text_space() -> [u8; 8193]
     [0; 8193]
 }
 
-fn place_space() -> [u8; 262172]
-    ensures { λ r. ⌜ 262172 ≡ length r ⌝ }
-{
-    [0; 262172]
-}
-
 // Reads once.
 fn read_more(part: &mut [u8]) -> Input
     ensures { λ r. ⌜ counted r ≤ length (now (part .exit)) ⌝ }
@@ -62,7 +56,7 @@ fn read_all(place: &mut [u8]) -> Input
 
 // Writes the listing of a text, or the line of its refusal.
 fn respond(input: &[u8]) {
-    let mut place = place_space();
+    let mut place = text::place();
     let n = text::answer(input, &mut place);
     if !io::write_all(STDOUT_FILENO, &place[..n]) {
         io::write_all(

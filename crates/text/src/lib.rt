@@ -4,11 +4,19 @@ use walk::Listed;
 ghost use mathlib.Core.Path.{_≡_};
 ghost use Prim.Native.Nat.{_≤_};
 ghost use lib.ListN.{length};
+ghost use Rattle.text.specs.Answers.{room};
 ghost use Rattle.text.specs.Promises.{AnswerPromise};
 ghost use Rattle.text.specs.Steps.{FromText, ListsRecords, Lists};
 
 // The room that the text of any sheet has: 16 bytes for each of 16,384 records, and 28 for the total.
 pub const ROOM: usize = 262_172;
+
+// A place that has it.
+pub fn place() -> [u8; ROOM]
+    ensures { λ r. ⌜ room ≡ length r ⌝ }
+{
+    [0; ROOM]
+}
 
 // Room for the records of any sheet.
 fn record_space() -> [u32; 16384]
@@ -40,7 +48,7 @@ fn list_records(sheet: Reading, records: &mut [u32]) -> Listed
 
 // Writes the listing of an accepted sheet: where its text ends. A sheet that is accepted is refused by no number.
 fn list(sheet: Reading, place: &mut [u8]) -> usize
-    requires { ⌜ FromText sheet × (262_172 ≤ length (now place)) ⌝ }
+    requires { ⌜ FromText sheet × (room ≤ length (now place)) ⌝ }
     ensures { λ r. ⌜ Lists sheet (now (place .entry)) (now (place .exit)) r ⌝ }
 {
     let mut records = record_space();

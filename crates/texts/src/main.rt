@@ -19,12 +19,6 @@ fn text_space() -> [u8; 262144]
     [0; 262144]
 }
 
-fn place_space() -> [u8; 262172]
-    ensures { λ r. ⌜ 262172 ≡ length r ⌝ }
-{
-    [0; 262172]
-}
-
 fn wide(byte: u8) -> usize
     ensures { λ r. ⌜ r ≤ 255 ⌝ }
 {
@@ -44,7 +38,7 @@ fn length_of(head: &[u8; 4]) -> usize
 
 // Writes what comes of a text; false where that can't be written.
 fn answered(input: &[u8]) -> bool {
-    let mut place = place_space();
+    let mut place = text::place();
     let n = text::answer(input, &mut place);
     let out = sheet::words_of(reading::read(input), n as u64);
     if io::write_all(STDOUT_FILENO, &out) {

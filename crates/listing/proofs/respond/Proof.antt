@@ -11,10 +11,10 @@ use Rattle.listing.proofs.respond.Tie as tie
 
 -- what is written lies within the place
 enough : (c : tie.After-answer) → c .answer .result ≤ length (c .answer .last .1 .0)
-enough c = lies-within _ (c .before .before .place-space .result) (let e = c .before .before .place-space .ensures in omega (arith, e)) (c .answer .ensures)
+enough c = lies-within _ (c .before .before .place .result) (let e = c .before .before .place .ensures in omega (arith, e)) (c .answer .ensures)
 
-place-space-requires : tie.Need-place-space-requires
-place-space-requires c κs = search needs
+place-requires : tie.Need-place-requires
+place-requires c κs = search needs
 
 slice-aggregate-answer : tie.Need-slice-aggregate-answer
 slice-aggregate-answer c = search needs
@@ -47,7 +47,7 @@ pub respond-spec : {M : Type 1} → statement M
 respond-spec =
     tie.close
     (tie.spec
-    place-space-requires
+    place-requires
     slice-aggregate-answer
     answer-requires
     array-share-prefix-place

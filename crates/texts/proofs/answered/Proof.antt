@@ -10,10 +10,10 @@ use Rattle.texts.proofs.answered.Statement.{statement}
 use Rattle.texts.proofs.answered.Tie as tie
 
 enough : (c : tie.After-answer) → c .answer .result ≤ length (c .answer .last .1 .0)
-enough c = lies-within _ (c .before .before .place-space .result) (let e = c .before .before .place-space .ensures in omega (arith, e)) (c .answer .ensures)
+enough c = lies-within _ (c .before .before .place .result) (let e = c .before .before .place .ensures in omega (arith, e)) (c .answer .ensures)
 
-place-space-requires : tie.Need-place-space-requires
-place-space-requires c κs = search needs
+place-requires : tie.Need-place-requires
+place-requires c κs = search needs
 
 slice-aggregate-answer : tie.Need-slice-aggregate-answer
 slice-aggregate-answer c = search needs
@@ -52,7 +52,7 @@ pub answered-spec : {M : Type 1} → statement M
 answered-spec =
     tie.close
     (tie.spec
-    place-space-requires
+    place-requires
     slice-aggregate-answer
     answer-requires
     read-requires
