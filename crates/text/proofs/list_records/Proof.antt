@@ -44,7 +44,7 @@ same-length : tie.Need-same-length
 same-length c = search needs
 
 returns : tie.Need-returns
-returns c w passed read = let l = c .before .before in let t = l .before .before in let s = t .before .before .before .before .before in listed-from w read (s .args .records .now) (rw (same-x t, same-y t) at (l .listing .ensures))
+returns c w passed read = let l = c .before .before in let t = l .before .before in let s = t .before .before .before .before .before in listed-from w read (s .args .records .now) (simp (same-x t, same-y t) at (l .listing .ensures))
 
 pub list-records-spec : {M : Type 1} → statement M
 list-records-spec =
