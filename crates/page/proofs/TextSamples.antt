@@ -3,6 +3,7 @@ use mathlib.Core.Path.{_≡_, refl}
 use mathlib.Core.List.{List, [], _∷_, flatMap}
 use Prim.Native.Nat.{ℕ}
 use lib.IntN.{pos, negsuc, pow, one}
+use lib.ListN.{replicate}
 use Rattle.algebra.specs.Sum.{sum, sumℕ, run, span, _⋯_}
 use Rattle.algebra.specs.Binomial.{choose}
 use Rattle.algebra.specs.MinMax.{minℤ, maxℤ}
@@ -82,3 +83,21 @@ numbers-bad = (refl, refl, refl, refl, refl, refl, refl, refl, refl, refl, refl,
 numbers-counted : (numbers (unsigned ∷ []) ((45 ∷ 49 ∷ []) ∷ []) ≡ bad) × (numbers (unsigned ∷ []) ((49 ∷ []) ∷ [] ∷ []) ≡ bad) × (numbers (unsigned ∷ []) [] ≡ bad)
 unfolding all-digits amount
 numbers-counted = (refl, refl, refl)
+
+-- ---- where j may be no 9, where no number may be negative, and a term twice though it is 0
+edges :
+    (outcome (68 ∷ 9 ∷ 57 ∷ 10 ∷ 66 ∷ 9 ∷ 48 ∷ 9 ∷ 48 ∷ 9 ∷ 48 ∷ 10 ∷ 75 ∷ 9 ∷ 49 ∷ 10 ∷ 77 ∷ 9 ∷ 48 ∷ 10 ∷ 84 ∷ 9 ∷ 48 ∷ 9 ∷ 57 ∷ 9 ∷ 53 ∷ 10 ∷ []) ≡ refused 10 5)
+    × (outcome (68 ∷ 9 ∷ 45 ∷ 49 ∷ 10 ∷ []) ≡ refused 10 1)
+    × (outcome (68 ∷ 9 ∷ 49 ∷ 10 ∷ 66 ∷ 9 ∷ 48 ∷ 9 ∷ 48 ∷ 9 ∷ 45 ∷ 49 ∷ 10 ∷ []) ≡ refused 10 2)
+    × (outcome (68 ∷ 9 ∷ 49 ∷ 10 ∷ 66 ∷ 9 ∷ 48 ∷ 9 ∷ 48 ∷ 9 ∷ 48 ∷ 10 ∷ 75 ∷ 9 ∷ 45 ∷ 49 ∷ 10 ∷ []) ≡ refused 10 3)
+    × (outcome (68 ∷ 9 ∷ 49 ∷ 10 ∷ 66 ∷ 9 ∷ 48 ∷ 9 ∷ 48 ∷ 9 ∷ 48 ∷ 10 ∷ 75 ∷ 9 ∷ 49 ∷ 10 ∷ 77 ∷ 9 ∷ 45 ∷ 49 ∷ 10 ∷ []) ≡ refused 10 4)
+    × (outcome (68 ∷ 9 ∷ 49 ∷ 10 ∷ 66 ∷ 9 ∷ 48 ∷ 9 ∷ 48 ∷ 9 ∷ 48 ∷ 10 ∷ 75 ∷ 9 ∷ 49 ∷ 10 ∷ 77 ∷ 9 ∷ 48 ∷ 10 ∷ 84 ∷ 9 ∷ 45 ∷ 49 ∷ 9 ∷ 48 ∷ 9 ∷ 53 ∷ 10 ∷ []) ≡ refused 10 5)
+    × (outcome (68 ∷ 9 ∷ 49 ∷ 10 ∷ 66 ∷ 9 ∷ 48 ∷ 9 ∷ 48 ∷ 9 ∷ 48 ∷ 10 ∷ 75 ∷ 9 ∷ 49 ∷ 10 ∷ 77 ∷ 9 ∷ 48 ∷ 10 ∷ 84 ∷ 9 ∷ 48 ∷ 9 ∷ 45 ∷ 49 ∷ 9 ∷ 53 ∷ 10 ∷ []) ≡ refused 10 5)
+    × (outcome (68 ∷ 9 ∷ 49 ∷ 10 ∷ 66 ∷ 9 ∷ 48 ∷ 9 ∷ 48 ∷ 9 ∷ 48 ∷ 10 ∷ 75 ∷ 9 ∷ 49 ∷ 10 ∷ 77 ∷ 9 ∷ 48 ∷ 10 ∷ 84 ∷ 9 ∷ 48 ∷ 9 ∷ 48 ∷ 9 ∷ 48 ∷ 10 ∷ 84 ∷ 9 ∷ 48 ∷ 9 ∷ 48 ∷ 9 ∷ 48 ∷ 10 ∷ []) ≡ refused 10 6)
+unfolding sumℕ run span _⋯_ row-start weight table first lines fields all-digits amount terms-from text-of in-order flatMap outcome
+edges = (refl, refl, refl, refl, refl, refl, refl, refl)
+
+-- 8,192 bytes may be read, and are bad at line 1 here; 8,193 are too many
+too-long : (outcome (replicate 8_192 10) ≡ refused 10 1) × (outcome (replicate 8_193 10) ≡ refused 11 0)
+unfolding lines fields text-of outcome
+too-long = (refl, refl)

@@ -4,7 +4,7 @@ use mathlib.Core.Bool.{true, false}
 use mathlib.Core.List.{List, [], _∷_}
 use Prim.Native.Nat.{ℕ, _≤_}
 use lib.Dec.{ltb}
-use lib.ListN.{length}
+use lib.ListN.{length, take}
 use Rattle.page.specs.Sheet.{count}
 use Rattle.page.specs.Refusals.{Row, _when_, table, first}
 use Rattle.page.specs.SheetText.{Said, Text, bad-line, well-formed, lines, text-of, sheet-in, to-read, Outcome, refused, accepted, outcome}
@@ -13,7 +13,7 @@ use Rattle.page.specs.SheetText.{Said, Text, bad-line, well-formed, line
 abbrev pub AsManyCoefficients : Type 0
 AsManyCoefficients = (w : Said) → length (sheet-in w .coefficients) ≡ count (w .d)
 
--- ---- the number of a refusal is one of 1, 3, 4, 5, 6, 10, 11, and only 10 has a line
+-- ---- the number of a refusal is one of 1, 3, 4, 5, 6, 10, 11; 10 has a line, counted from 1, and no other has one
 pub record ReadNumber (n line : ℕ) : Type 0 where
   pub not-0 : n ≡ 0 → ⊥
   pub not-2 : n ≡ 2 → ⊥
@@ -21,6 +21,7 @@ pub record ReadNumber (n line : ℕ) : Type 0 where
   pub not-8 : n ≡ 8 → ⊥
   pub not-9 : n ≡ 9 → ⊥
   pub at-most : n ≤ 11
+  pub counted : n ≡ 10 → 1 ≤ line
   pub lineless : (n ≡ 10 → ⊥) → line ≡ 0
 
 abbrev pub ReadNever : Type 0
@@ -40,3 +41,7 @@ text-table text = (11 when ltb 8_192 (length text)) ∷ rows-of (text-of (lines 
 
 abbrev pub ReadTable : Type 0
 ReadTable = (text : List ℕ) → number-of (outcome text) ≡ first (text-table text)
+
+-- ---- the first 8,193 bytes decide: more of a text need not be held
+abbrev pub FirstDecide : Type 0
+FirstDecide = (text : List ℕ) → outcome (take 8_193 text) ≡ outcome text
