@@ -20,6 +20,21 @@ use Rattle.page.proofs.Order.{order-long}
 pub as-many-coefficients : AsManyCoefficients
 as-many-coefficients w = order-long (w .d) (coefficient-of (w .terms))
 
+-- ---- the first row that holds
+itself : (n : ℕ) → unless n (λ m. m) 0 ≡ n
+itself zero = refl
+itself (suc n) = refl
+
+in-table : (long : Bool) (t : Text) → number-of (cond long (refused 11 0) (outcome-of t)) ≡ cond long 11 (first (rows-of t))
+unfolding first
+in-table true t = refl
+in-table false (bad-line n) = refl
+in-table false (well-formed w) = unless-ap number-of (refusal (to-read w)) (λ n. refused n 0) (accepted w) ∙ itself (refusal (to-read w))
+
+pub read-table : ReadTable
+unfolding outcome first
+read-table text = in-table (ltb 8_192 (length text)) (text-of (lines text))
+
 -- ---- the rows of a well-formed text: 1, 3, 4, 5, 6
 rows-held : (a c d e f : Bool) → let n : ℕ = cond a 1 (cond c 3 (cond d 4 (cond e 5 (cond f 6 0)))) in (n ≤ 6) × (n ≡ 2 → ⊥)
 rows-held true c d e f = (omega arith, λ z. omega arith)
@@ -78,21 +93,6 @@ told false (well-formed w) (at-none _) {n} {line} e =
 pub read-never : ReadNever
 unfolding outcome
 read-never text n line e = told (ltb 8_192 (length text)) (text-of (lines text)) (counted-text (lines text)) e
-
--- ---- the first row that holds
-itself : (n : ℕ) → unless n (λ m. m) 0 ≡ n
-itself zero = refl
-itself (suc n) = refl
-
-in-table : (long : Bool) (t : Text) → number-of (cond long (refused 11 0) (outcome-of t)) ≡ cond long 11 (first (rows-of t))
-unfolding first
-in-table true t = refl
-in-table false (bad-line n) = refl
-in-table false (well-formed w) = unless-ap number-of (refusal (to-read w)) (λ n. refused n 0) (accepted w) ∙ itself (refusal (to-read w))
-
-pub read-table : ReadTable
-unfolding outcome first
-read-table text = in-table (ltb 8_192 (length text)) (text-of (lines text))
 
 -- ---- the first 8,193 bytes decide
 too-long : (text : List ℕ) → 8_192 < length text → outcome text ≡ refused 11 0

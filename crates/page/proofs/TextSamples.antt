@@ -30,6 +30,19 @@ whole-case : written-text whole-in ≡ whole-out
 unfolding pow one sum sumℕ run span _⋯_ choose minℤ maxℤ row-start judged G lower upper those walking-order colour visited coloured weight table first lines fields all-digits amount terms-from text-of in-order flatMap outcome digits-within decimal record-line total-line listing-text written-text
 whole-case = refl
 
+-- ---- the marks: level 7, p 127, q 5, coloured, above and below
+marks :
+    (record-line 1 7 127 5 ≡ 55 ∷ 9 ∷ 49 ∷ 50 ∷ 55 ∷ 9 ∷ 53 ∷ 9 ∷ 48 ∷ 10 ∷ [])
+    × (record-line 2 7 127 5 ≡ 55 ∷ 9 ∷ 49 ∷ 50 ∷ 55 ∷ 9 ∷ 53 ∷ 9 ∷ 43 ∷ 10 ∷ [])
+    × (record-line 3 7 127 5 ≡ 55 ∷ 9 ∷ 49 ∷ 50 ∷ 55 ∷ 9 ∷ 53 ∷ 9 ∷ 45 ∷ 10 ∷ [])
+unfolding digits-within decimal record-line
+marks = (refl, refl, refl)
+
+-- ---- 11 before 10: empty lines, 8,192 of them and one more
+lengths : (outcome (replicate 8_192 10) ≡ refused 10 1) × (outcome (replicate 8_193 10) ≡ refused 11 0)
+unfolding lines fields text-of outcome
+lengths = (refl, refl)
+
 -- ---- refusals with their lines
 
 refusals :
@@ -96,8 +109,3 @@ edges :
     × (outcome (68 ∷ 9 ∷ 49 ∷ 10 ∷ 66 ∷ 9 ∷ 48 ∷ 9 ∷ 48 ∷ 9 ∷ 48 ∷ 10 ∷ 75 ∷ 9 ∷ 49 ∷ 10 ∷ 77 ∷ 9 ∷ 48 ∷ 10 ∷ 84 ∷ 9 ∷ 48 ∷ 9 ∷ 48 ∷ 9 ∷ 48 ∷ 10 ∷ 84 ∷ 9 ∷ 48 ∷ 9 ∷ 48 ∷ 9 ∷ 48 ∷ 10 ∷ []) ≡ refused 10 6)
 unfolding sumℕ run span _⋯_ row-start weight table first lines fields all-digits amount terms-from text-of in-order flatMap outcome
 edges = (refl, refl, refl, refl, refl, refl, refl, refl)
-
--- 8,192 bytes may be read, and are bad at line 1 here; 8,193 are too many
-too-long : (outcome (replicate 8_192 10) ≡ refused 10 1) × (outcome (replicate 8_193 10) ≡ refused 11 0)
-unfolding lines fields text-of outcome
-too-long = (refl, refl)
