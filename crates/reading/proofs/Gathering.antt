@@ -5,7 +5,7 @@ use Prim.Native.Nat.{ℕ, zero, suc, _+_, _-_, _≤_, _<_}
 use native.Mathlib.Nat as Nat
 use native.Mathlib.Omega.{arith}
 use lib.IntN.{ℤ, pos}
-use lib.ListN.{length, set, drop, replicate, length-map, length-append, length-replicate}
+use lib.ListN.{length, getD, set, drop, replicate, length-map, length-append, length-replicate}
 use lib.Seq.{sets, sets-eq, take-at, drop-append-add}
 use Rattle.algebra.specs.Sum.{span, run, _⋯_}
 use Rattle.algebra.specs.Triangle.{row-start}
@@ -13,7 +13,7 @@ use Rattle.algebra.proofs.Run.{span-next, length-run}
 use Rattle.algebra.proofs.Places.{row-start-zero, row-start-next, row-start-mono, row-start-all, places-45}
 use Rattle.page.proofs.Order.{row-of, row-long, rows-before, rows-none, rows-next, rows-all, rows-long}
 use Rattle.page.specs.SheetText.{in-order}
-use Rattle.reading.specs.Steps.{table-at, gathered-from}
+use Rattle.reading.specs.Steps.{place-of, table-at, gathered-from}
 
 -- ---- one more store after a run of stores
 sets-one : (l : List ℤ) (i : ℕ) (vs : List ℤ) (a : ℤ) → sets l i (vs ++ (a ∷ [])) ≡ set (sets l i vs) (i + length vs) a
@@ -34,13 +34,13 @@ module _ {values : List ℤ} {i n at : ℕ} {old : List ℤ} where
   unfolding span run
   putting-start = record { within = omega arith; put = refl }
 
-  -- one place more
-  pub putting-next : {new : List ℤ} {j : ℕ} {z : ℤ} → j ≤ n → z ≡ table-at values i j → Putting values i n at old new j → Putting values i n at old (set new (at + j) z) (j + 1)
-  putting-next {new} {j} {z} h e p =
+  -- one place more, from its own entry of the table
+  pub putting-next : {new : List ℤ} {j from : ℕ} {z : ℤ} → j ≤ n → z ≡ getD values from (pos 0) → from ≡ place-of i j → Putting values i n at old new j → Putting values i n at old (set new (at + j) z) (j + 1)
+  putting-next {new} {j} {from} {z} h e q p =
       let f : ℕ → ℤ = table-at values i in let l : length (map f (span 0 j)) ≡ j = length-map (span 0 j) f ∙ span-long j in
       record {
         within = omega arith;
-        put = ap (λ y. set new (at + j) y) e ∙ ap (λ y. set y (at + j) (f j)) (p .put) ∙ ap (λ m. set (sets old at (map f (span 0 j))) (at + m) (f j)) (sym l)
+        put = ap (λ y. set new (at + j) y) (e ∙ ap (λ m. getD values m (pos 0)) q) ∙ ap (λ y. set y (at + j) (f j)) (p .put) ∙ ap (λ m. set (sets old at (map f (span 0 j))) (at + m) (f j)) (sym l)
             ∙ sym (ap (λ m. sets old at (map f m)) (span-next 0 j (omega arith)) ∙ ap (sets old at) (map-append f (span 0 j) (j ∷ [])) ∙ sets-one old at (map f (span 0 j)) (f j));
       }
 

@@ -8,3 +8,4 @@ pub mod Tables
 pub mod Heads
 pub mod Naming
 pub mod Promises
+pub mod Samples

@@ -153,6 +153,10 @@ pub is-first : (f : List ℕ) → (length f ≡ 0 → ⊥) → eqb (getD f 0 0) 
 is-first [] e = absurd (e refl)
 is-first (b ∷ f) e = refl
 
+-- `-0` is none
+pub minus-zero : (negative : Bool) (n : ℕ) → n ≡ 0 → Number.Malformed ≡ minus-in negative n
+minus-zero negative n e = rw (eq-eqb n 0 e)
+
 -- the bits of -n: all ones less n - 1
 pub turned : (n : ℕ) → 0 < n → n ≤ 2147483648 → toZ w32 (4294967295 - (n - 1)) ≡ negℤ (pos n)
 turned zero h l = absurd (omega arith)

@@ -89,5 +89,14 @@ module _ {d i j : ℕ} {c : ℤ} {values : List ℤ} {named : List ℕ} where
   pub left-out : (i ≤ 8 → j ≤ 8 → i + j ≤ d → getD named (place-of i j) 0 ≡ 0 → ⊥) → Enters d i j c values values named named false
   left-out h = record { answer = same-test false (admitted d i j named) (λ e. absurd (false≢true e)) (λ e. let (a, b, s, z) = admits d i j named e in absurd (h a b s z)); entered = refl; marked = refl }
 
-  pub taken-in : i ≤ 8 → j ≤ 8 → i + j ≤ d → getD named (place-of i j) 0 ≡ 0 → Enters d i j c values (set values (place-of i j) c) named (set named (place-of i j) 1) true
-  taken-in h k l e = record { answer = rw (le-leb i 8 h, le-leb j 8 k, le-leb (i + j) d l, eq-eqb (getD named (place-of i j) 0) 0 e); entered = refl; marked = refl }
+  -- by the mark at the term's own place
+  module _ {at : ℕ} where
+    pub marked-out : (getD named at 0 ≡ 0 → ⊥) → at ≡ place-of i j → Enters d i j c values values named named false
+    marked-out h p = left-out (λ _ _ _ e. h (ap (λ n. getD named n 0) p ∙ e))
+
+    pub taken-in : i ≤ 8 → j ≤ 8 → i + j ≤ d → getD named at 0 ≡ 0 → at ≡ place-of i j → Enters d i j c values (set values at c) named (set named at 1) true
+    taken-in h k l e p = record {
+      answer = rw (le-leb i 8 h, le-leb j 8 k, le-leb (i + j) d l, eq-eqb (getD named (place-of i j) 0) 0 (ap (λ n. getD named n 0) (sym p) ∙ e));
+      entered = ap (λ n. set values n c) p;
+      marked = ap (λ n. set named n 1) p;
+    }

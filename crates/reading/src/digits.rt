@@ -41,11 +41,11 @@ fn digits_only(digits: &[u8]) -> bool
 fn decimal(digits: &[u8]) -> bool
     ensures { λ r. ⌜ r ≡ is-decimal (now (digits .entry)) ⌝ }
 {
-    let n = digits.len();
-    if n == 0 {
+    let count = digits.len();
+    if count == 0 {
         return false;
     }
-    if 1 < n {
+    if 1 < count {
         if digits[0] == 48 {
             return false;
         }

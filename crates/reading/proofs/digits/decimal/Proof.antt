@@ -14,7 +14,7 @@ shared-slice-read-if3 : tie.Need-shared-slice-read-if3
 shared-slice-read-if3 c = search needs
 
 returns-2 : tie.Need-returns-2
-returns-2 c = leading-zero (c .before .before .before .before .before .args .digits .now) (c .before .before .if2 .taken) (c .if3 .taken)
+returns-2 c = leading-zero (c .before .before .before .before .before .args .digits .now) (omega arith) (c .if3 .taken)
 
 digits-only-requires : tie.Need-digits-only-requires
 digits-only-requires c κs = search needs

@@ -1,9 +1,28 @@
 -- `reading::opening::read_head` meets its contract, line after line.
 use borrow.Author.Tests.{not-true, not-false}
+use mathlib.Core.List.{[], _∷_}
+use Rattle.page.specs.SheetText.{signed, unsigned}
+use Rattle.reading.specs.Steps.{LineTaken}
 use Rattle.reading.proofs.Heads.{bad-1, bad-2, bad-3, bad-4, all-four}
 use borrow.Author.Needs.{needs}
 use Rattle.reading.proofs.opening.read_head.Statement.{statement}
 use Rattle.reading.proofs.opening.read_head.Tie as tie
+
+-- ---- the four lines, each with its letter and its numbers
+degree : (l : tie.After-take-line) → LineTaken (l .before .before .args .text .now) 0 68 1 (unsigned ∷ unsigned ∷ unsigned ∷ []) (l .take-line .result)
+degree l = l .take-line .ensures
+
+square : (l : tie.After-take-line2) → let d = l .before .before .before in
+    LineTaken (d .before .before .args .text .now) (d .take-line .result .next) 66 3 (signed ∷ signed ∷ unsigned ∷ []) (l .take-line2 .result)
+square l = l .take-line2 .ensures
+
+depth : (l : tie.After-take-line3) → let b = l .before .before .before in let d = b .before .before .before in
+    LineTaken (d .before .before .args .text .now) (b .take-line2 .result .next) 75 1 (unsigned ∷ unsigned ∷ unsigned ∷ []) (l .take-line3 .result)
+depth l = l .take-line3 .ensures
+
+mode : (l : tie.After-take-line4) → let k = l .before .before .before in let d = k .before .before .before .before .before .before in
+    LineTaken (d .before .before .args .text .now) (k .take-line3 .result .next) 77 1 (unsigned ∷ unsigned ∷ unsigned ∷ []) (l .take-line4 .result)
+mode l = l .take-line4 .ensures
 
 take-line-requires : tie.Need-take-line-requires
 take-line-requires c κs = search needs
@@ -12,7 +31,7 @@ bad-head-requires : tie.Need-bad-head-requires
 bad-head-requires c κs = search needs
 
 returns : tie.Need-returns
-returns c = bad-1 _ (c .before .before .before .take-line .ensures) (not-true _ (c .before .if1 .taken)) (c .bad-head .ensures)
+returns c = bad-1 _ (degree (c .before .before .before)) (not-true _ (c .before .if1 .taken)) (c .bad-head .ensures)
 
 take-line-requires-2 : tie.Need-take-line-requires-2
 take-line-requires-2 c κs = search needs
@@ -23,7 +42,7 @@ bad-head-requires-2 c κs = search needs
 returns-2 : tie.Need-returns-2
 returns-2 c =
     let l2 = c .before .before .before in let l1 = l2 .before .before .before in
-    bad-2 _ (l1 .take-line .ensures) (not-false _ (l2 .before .if1 .left)) (l2 .take-line2 .ensures) (not-true _ (c .before .if2 .taken)) (c .bad-head2 .ensures)
+    bad-2 _ (degree l1) (not-false _ (l2 .before .if1 .left)) (square l2) (not-true _ (c .before .if2 .taken)) (c .bad-head2 .ensures)
 
 take-line-requires-3 : tie.Need-take-line-requires-3
 take-line-requires-3 c κs = search needs
@@ -34,7 +53,7 @@ bad-head-requires-3 c κs = search needs
 returns-3 : tie.Need-returns-3
 returns-3 c =
     let l3 = c .before .before .before in let l2 = l3 .before .before .before in let l1 = l2 .before .before .before in
-    bad-3 _ (l1 .take-line .ensures) (not-false _ (l2 .before .if1 .left)) (l2 .take-line2 .ensures) (not-false _ (l3 .before .if2 .left)) (l3 .take-line3 .ensures) (not-true _ (c .before .if3 .taken)) (c .bad-head3 .ensures)
+    bad-3 _ (degree l1) (not-false _ (l2 .before .if1 .left)) (square l2) (not-false _ (l3 .before .if2 .left)) (depth l3) (not-true _ (c .before .if3 .taken)) (c .bad-head3 .ensures)
 
 take-line-requires-4 : tie.Need-take-line-requires-4
 take-line-requires-4 c κs = search needs
@@ -45,8 +64,8 @@ bad-head-requires-4 c κs = search needs
 returns-4 : tie.Need-returns-4
 returns-4 c =
     let l4 = c .before .before .before in let l3 = l4 .before .before .before in let l2 = l3 .before .before .before in let l1 = l2 .before .before .before in
-    bad-4 _ (l1 .take-line .ensures) (not-false _ (l2 .before .if1 .left)) (l2 .take-line2 .ensures) (not-false _ (l3 .before .if2 .left)) (l3 .take-line3 .ensures) (not-false _ (l4 .before .if3 .left))
-    (l4 .take-line4 .ensures) (not-true _ (c .before .if4 .taken)) (c .bad-head4 .ensures)
+    bad-4 _ (degree l1) (not-false _ (l2 .before .if1 .left)) (square l2) (not-false _ (l3 .before .if2 .left)) (depth l3) (not-false _ (l4 .before .if3 .left))
+    (mode l4) (not-true _ (c .before .if4 .taken)) (c .bad-head4 .ensures)
 
 head-of-requires : tie.Need-head-of-requires
 head-of-requires c κs = search needs
@@ -54,8 +73,8 @@ head-of-requires c κs = search needs
 returns-5 : tie.Need-returns-5
 returns-5 c =
     let e = c .before .before .before .before .before in let l4 = e .before .before in let l3 = l4 .before .before .before in let l2 = l3 .before .before .before in let l1 = l2 .before .before .before in
-    all-four _ (l1 .take-line .ensures) (not-false _ (l2 .before .if1 .left)) (l2 .take-line2 .ensures) (not-false _ (l3 .before .if2 .left)) (l3 .take-line3 .ensures) (not-false _ (l4 .before .if3 .left))
-    (l4 .take-line4 .ensures) (not-false _ (e .if4 .left)) (c .head-of .ensures)
+    all-four _ (degree l1) (not-false _ (l2 .before .if1 .left)) (square l2) (not-false _ (l3 .before .if2 .left)) (depth l3) (not-false _ (l4 .before .if3 .left))
+    (mode l4) (not-false _ (e .if4 .left)) (c .head-of .ensures)
 
 pub read-head-spec : {M : Type 1} → statement M
 read-head-spec =

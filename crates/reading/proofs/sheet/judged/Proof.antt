@@ -12,8 +12,9 @@ use mir.Syntax.{w32}
 use mir.Val.{toZ, ofZ}
 use Rattle.page.specs.Sheet.{count}
 use Rattle.page.specs.Refusals.{refusal}
-use Rattle.page.specs.SheetText.{Term, coefficient-of, Said, to-read}
+use Rattle.page.specs.SheetText.{Term, coefficient-of, Said, to-read, refused}
 use Rattle.page.proofs.TextRows.{read-1}
+use Rattle.reading.specs.Answers.{reading-of}
 use Rattle.reading.specs.Steps.{place-of, said-by}
 use Rattle.reading.proofs.Judging.{gathered-long, judged-refused, judged-accepted, number-is, reading-is}
 use Rattle.reading.proofs.sheet.judged.Statement.{statement}
@@ -30,7 +31,7 @@ refused-requires : tie.Need-refused-requires
 refused-requires c κs = search needs
 
 returns : tie.Need-returns
-returns c ts held = let s = c .before .before in let w = said-by (s .args .head) ts in c .refused .ensures ∙ judged-refused w (read-1 w (c .before .if1 .taken)) (λ z. omega arith)
+returns c ts held = let s = c .before .before in let w = said-by (s .args .head) ts in let e : c .refused .result ≡ reading-of (refused 1 0) = c .refused .ensures in e ∙ judged-refused w (read-1 w (omega (arith, c .before .if1 .taken))) (λ z. omega arith)
 
 cast-n : tie.Need-cast-n
 cast-n c = search needs
@@ -70,7 +71,7 @@ said c ts = said-by (c .before .before .before .before .before .before .args .he
 number : (c : tie.After-mode-refusal) (ts : List Term) → ((i j : ℕ) → i ≤ 8 → j ≤ 8 → getD (c .before .before .before .before .before .before .args .values .now) (place-of i j) (pos 0) ≡ coefficient-of ts i j)
     → c .mode-refusal .result ≡ refusal (to-read (said c ts))
 number c ts held = let s = c .before .before .before .before .before .before in
-    number-is (s .args .head) (s .args .values .now) ts held (c .before .before .before .before .before .if1 .left) (c .before .before .before .before .gathered .ensures)
+    number-is (s .args .head) (s .args .values .now) ts held (omega (arith, c .before .before .before .before .before .if1 .left)) (c .before .before .before .before .gathered .ensures)
     (rw (same-x (c .before .before), same-y (c .before .before)) at (c .mode-refusal .ensures))
 
 returns-2 : tie.Need-returns-2
@@ -80,7 +81,7 @@ returns-3 : tie.Need-returns-3
 returns-3 c ts held =
     let m = c .before .before in let t = m .before .before in let g = t .before .before in let s = g .before .before in
     rw (same-x t, same-y t)
-    (reading-is (s .args .head) (s .args .values .now) ts held (g .before .if1 .left) (g .gathered .ensures) ∙ judged-accepted (said m ts) (number m ts held) (c .before .if2 .left))
+    (reading-is (s .args .head) (s .args .values .now) ts held (omega (arith, g .before .if1 .left)) (g .gathered .ensures) ∙ judged-accepted (said m ts) (number m ts held) (c .before .if2 .left))
 
 pub judged-spec : {M : Type 1} → statement M
 judged-spec =

@@ -43,7 +43,7 @@ loop-less : tie.Need-loop-less Inv-loop μ-loop
 loop-less c = omega arith
 
 loop-again : tie.Need-loop-again Inv-loop μ-loop
-loop-again c = putting-next (omega arith) (toZ-ofZ (record { sfits = c .coefficients .given })) (c .before .before .loop .inv)
+loop-again c = putting-next (omega arith) (toZ-ofZ (record { sfits = c .coefficients .given })) (omega arith) (c .before .before .loop .inv)
 
 returns : tie.Need-returns Inv-loop μ-loop
 returns c = putting-end (omega arith) (c .before .loop .inv)

@@ -2,7 +2,7 @@
 use native.Mathlib.Omega.{arith}
 use borrow.Author.Needs.{needs}
 use mir.Facts.{toZ-ofZ}
-use Rattle.reading.proofs.Tables.{left-out, taken-in}
+use Rattle.reading.proofs.Tables.{left-out, marked-out, taken-in}
 use Rattle.reading.proofs.terms.enter.Statement.{statement}
 use Rattle.reading.proofs.terms.enter.Tie as tie
 
@@ -28,19 +28,19 @@ cast-at : tie.Need-cast-at
 cast-at c = search needs
 
 slice-read-if4 : tie.Need-slice-read-if4
-slice-read-if4 c = search needs
+slice-read-if4 c = omega arith
 
 returns-4 : tie.Need-returns-4
-returns-4 c = left-out (λ h k l e. c .if4 .taken e)
+returns-4 c = marked-out (c .if4 .taken) (omega arith)
 
 slice-write-named : tie.Need-slice-write-named
-slice-write-named c = search needs
+slice-write-named c = omega arith
 
 mul-coefficient : tie.Need-mul-coefficient
 mul-coefficient c = search needs
 
 slice-set-from-coefficient : tie.Need-slice-set-from-coefficient
-slice-set-from-coefficient c = search needs
+slice-set-from-coefficient c = omega arith
 
 same-length : tie.Need-same-length
 same-length c = search needs
@@ -49,7 +49,7 @@ same-length-2 : tie.Need-same-length-2
 same-length-2 c = search needs
 
 returns-5 : tie.Need-returns-5
-returns-5 c = rw (toZ-ofZ (c .before .before .before .before .before .fits .coefficient)) (taken-in (omega arith) (omega arith) (omega arith) (c .if4 .left))
+returns-5 c = rw (toZ-ofZ (c .before .before .before .before .before .fits .coefficient)) (taken-in (omega arith) (omega arith) (omega arith) (c .if4 .left) (omega arith))
 
 pub enter-spec : {M : Type 1} → statement M
 enter-spec =
