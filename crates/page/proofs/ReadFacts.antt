@@ -12,7 +12,7 @@ use lib.Seq.{take-all, length-take-le}
 use Rattle.page.specs.Sheet.{count}
 use Rattle.page.specs.Weight.{weight}
 use Rattle.page.specs.Refusals.{outside-range, table, first, refusal, unless}
-use Rattle.page.specs.SheetText.{Line, lines, Numbers, bad, good, line-numbers, term-of, is-new, coefficient-of, Said, Text, bad-line, well-formed, with-terms, with-line, line-then, term-numbers, terms-from, text-of, sheet-in, to-read, refused, accepted, outcome-of, outcome}
+use Rattle.page.specs.SheetText.{Line, lines, Numbers, bad, good, line-numbers, term-of, is-admitted, coefficient-of, Said, Text, bad-line, well-formed, with-terms, with-line, line-then, term-numbers, terms-from, text-of, sheet-in, to-read, refused, accepted, outcome-of, outcome}
 use Rattle.page.specs.ReadFacts.{AsManyCoefficients, ReadNumber, ReadNever, number-of, rows-of, ReadTable, FirstDecide}
 use Rattle.page.proofs.Rows.{unless-ap}
 use Rattle.page.proofs.Order.{order-long}
@@ -72,7 +72,7 @@ counted-then n letter ns (l ∷ ls) h f = counted-line n (line-numbers letter ns
 counted-terms : (ls : List Line) (n : ℕ) (w : Said) → 1 ≤ n → Counted (terms-from n w ls)
 unfolding terms-from
 counted-terms [] n w h = at-none w
-counted-terms (l ∷ ls) n w h = counted-line n (term-numbers l) h (λ zs. by zs (is-new (w .d) (w .terms) (term-of zs)) (counted-terms ls (n + 1) (with-terms w (term-of zs ∷ w .terms)) (omega arith)))
+counted-terms (l ∷ ls) n w h = counted-line n (term-numbers l) h (λ zs. by zs (is-admitted (w .d) (w .terms) (term-of zs)) (counted-terms ls (n + 1) (with-terms w (term-of zs ∷ w .terms)) (omega arith)))
   where
     by : (zs : List ℤ) (b : Bool) {t : Text} → Counted t → Counted (cond b t (bad-line n))
     by zs true k = k

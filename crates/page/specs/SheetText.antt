@@ -138,8 +138,8 @@ is-named i j [] = false
 is-named i j (t ∷ ts) = is-term i j t || is-named i j ts
 
 -- no (i,j) twice, i + j ≤ the declared d, i and j at most 8
-abbrev pub is-new : ℕ → List Term → Term → Bool
-is-new d ts t = leb (t .i + t .j) d && leb (t .i) 8 && leb (t .j) 8 && not (is-named (t .i) (t .j) ts)
+abbrev pub is-admitted : ℕ → List Term → Term → Bool
+is-admitted d ts t = leb (t .i + t .j) d && leb (t .i) 8 && leb (t .j) 8 && not (is-named (t .i) (t .j) ts)
 
 -- a term not named is 0
 abbrev pub coefficient-of : List Term → ℕ → ℕ → ℤ
@@ -161,16 +161,17 @@ pub data Text : Type 0 where
   bad-line : ℕ → Text
   well-formed : Said → Text
 
--- the n-th line has these numbers, and other lines come after it; where it is bad or missing the text is bad there
+-- what follows from the n-th line's numbers; where the line is bad, the text is bad there
 abbrev pub with-line : ℕ → Numbers → (List ℤ → Text) → Text
 with-line n bad rest = bad-line n
 with-line n (good zs) rest = rest zs
 
+-- the n-th line, of this letter and these numbers, and what follows from it and from the lines after it; where it is missing, the text is bad there. The letters' bytes: `B` 66, `D` 68, `K` 75, `M` 77, `T` 84
 abbrev pub line-then : ℕ → ℕ → List Bool → List Line → (List ℤ → List Line → Text) → Text
 line-then n letter ns [] rest = bad-line n
 line-then n letter ns (l ∷ ls) rest = with-line n (line-numbers letter ns l) (λ zs. rest zs ls)
 
--- the letters `T`, and then `D`, `B`, `K` and `M`
+-- `T` i j coefficient
 abbrev pub term-numbers : Line → Numbers
 term-numbers l = line-numbers 84 (unsigned ∷ unsigned ∷ signed ∷ []) l
 
@@ -181,7 +182,7 @@ with-terms w ts = record { d = w .d; X = w .X; Y = w .Y; s = w .s; k = w .k; mod
 unfoldable pub terms-from : ℕ → Said → List Line → Text
 terms-from n w [] = well-formed w
 terms-from n w (l ∷ ls) = with-line n (term-numbers l) (λ zs.
-    cond (is-new (w .d) (w .terms) (term-of zs)) (terms-from (n + 1) (with-terms w (term-of zs ∷ w .terms)) ls) (bad-line n))
+    cond (is-admitted (w .d) (w .terms) (term-of zs)) (terms-from (n + 1) (with-terms w (term-of zs ∷ w .terms)) ls) (bad-line n))
 
 -- lines in order: `D` d; `B` X Y s; `K` k; `M` mode; then zero or more terms
 unfoldable pub text-of : List Line → Text

@@ -1,4 +1,4 @@
--- What is written of a number and what is read of it, as statements. That they hold is proofs/Decimals.
+-- What is written of a natural number and what is read of it, as statements. That they hold is proofs/Decimals.
 use mathlib.Core.Path.{_≡_}
 use mathlib.Core.Bool.{true}
 use mathlib.Core.List.{List}

@@ -10,7 +10,7 @@ use lib.Dec.{eqb}
 use lib.IntN.{ℤ}
 use lib.ListN.{length, getD, set, take, drop, length-set}
 use lib.Seq.{drop-cons, drop-length, take-all}
-use Rattle.page.specs.SheetText.{signed, unsigned, Line, before-line, lines, Term, term-of, is-new, Said, Text, bad-line, with-terms, line-then, terms-from}
+use Rattle.page.specs.SheetText.{signed, unsigned, Line, before-line, lines, Term, term-of, is-admitted, Said, Text, bad-line, with-terms, line-then, terms-from}
 use Rattle.reading.specs.declared.Taken.{Taken}
 use Rattle.reading.specs.Steps.{LineTaken, place-of, EntersTerm, Tables, TermTaken, TermsRead}
 use Rattle.reading.proofs.Heads.{line-bad, line-good}
@@ -18,7 +18,7 @@ use Rattle.reading.proofs.Tables.{enter-new, enter-kept, admits}
 
 -- ---- where the text has a byte left, it has a line left
 abbrev next-term : ℕ → Said → List ℤ → List Line → Text
-next-term n w zs ls = cond (is-new (w .d) (w .terms) (term-of zs)) (terms-from (n + 1) (with-terms w (term-of zs ∷ w .terms)) ls) (bad-line n)
+next-term n w zs ls = cond (is-admitted (w .d) (w .terms) (term-of zs)) (terms-from (n + 1) (with-terms w (term-of zs ∷ w .terms)) ls) (bad-line n)
 
 abbrev three : List Bool
 three = unsigned ∷ unsigned ∷ signed ∷ []
@@ -63,7 +63,7 @@ module _ (text : List ℕ) (at : ℕ) (inside : at < length text) where
           → terms-from n w (lines (drop at text)) ≡ cond ok (terms-from (n + 1) (with-terms w (the-term ∷ w .terms)) (lines (drop (r .next) text))) (bad-line n)
       by-term n w f tables =
           let v : take 3 (r .values) ≡ r .values = take-all 3 (r .values) (omega (arith, t .three)) in
-          let a : is-new (w .d) (w .terms) the-term ≡ ok = ap (λ m. is-new m (w .terms) the-term) f ∙ sym (enter-new tables the-term d) ∙ sym (e .answer) in
+          let a : is-admitted (w .d) (w .terms) the-term ≡ ok = ap (λ m. is-admitted m (w .terms) the-term) f ∙ sym (enter-new tables the-term d) ∙ sym (e .answer) in
           as-line n w ∙ line-good t n (next-term n w) good ∙ rw (v, a)
 
       long′ : (length values′ ≡ 81) × (length named′ ≡ 81)

@@ -11,7 +11,7 @@ use lib.IntN.{ℤ, pos}
 use lib.ListN.{length, getD, set, replicate, length-set, length-replicate, getD-replicate}
 use lib.Seq.{getD-set-same, getD-set-other}
 use Rattle.algebra.proofs.Choice.{same-test, and-left, and-right, and-both}
-use Rattle.page.specs.SheetText.{Term, is-term, is-named, is-new}
+use Rattle.page.specs.SheetText.{Term, is-term, is-named, is-admitted}
 use Rattle.reading.specs.Steps.{place-of, admitted, Enters, Tables}
 
 -- ---- places: the term i, j stands at 9i + j, and no other stands there
@@ -59,7 +59,7 @@ either false b = refl
 
 module _ {ts : List Term} {values : List ℤ} {named : List ℕ} (tables : Tables ts values named) (t : Term) where
   -- ---- a term is admitted where the text may name it
-  pub enter-new : (d : ℕ) → admitted d (t .i) (t .j) named ≡ is-new d ts t
+  pub enter-new : (d : ℕ) → admitted d (t .i) (t .j) named ≡ is-admitted d ts t
   enter-new d = in-turn (leb (t .i) 8) (leb (t .j) 8) (leb (t .i + t .j) d) _ _ (λ a b. ap (λ n. eqb n 0) (tables .names (t .i) (t .j) (leb-true (t .i) 8 a) (leb-true (t .j) 8 b)) ∙ marked (is-named (t .i) (t .j) ts))
 
   -- ---- and then the tables hold it too

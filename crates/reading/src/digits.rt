@@ -101,7 +101,7 @@ fn signless(n: u64) -> Number
     Number::Whole(n as i32)
 }
 
-// The number -n: `-0` is none, and it may have to be outside.
+// The number -n, or that it is none, as `-0`, or outside 32 bits or where no negative one may stand.
 fn below_zero(n: u64, negative: bool) -> Number
     ensures { λ r. ⌜ r ≡ minus-in negative n ⌝ }
 {

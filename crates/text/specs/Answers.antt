@@ -6,7 +6,7 @@ use lib.Dec.{ltb}
 use lib.ListN.{length, drop}
 use Rattle.page.specs.ListingText.{written-text}
 
--- the room that every text has: 16 bytes for each of 16,384 records, and 28 for the total
+-- room enough for every text: 16 bytes for each of 16,384 records, and 28 for the total
 abbrev pub room : ℕ
 room = 262_172
 

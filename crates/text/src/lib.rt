@@ -8,7 +8,7 @@ ghost use Rattle.text.specs.Answers.{room};
 ghost use Rattle.text.specs.Promises.{AnswerPromise};
 ghost use Rattle.text.specs.Steps.{FromText, ListsRecords, Lists};
 
-// The room that the text of any sheet has: 16 bytes for each of 16,384 records, and 28 for the total.
+// Room enough for the text of any sheet: 16 bytes for each of 16,384 records, and 28 for the total.
 pub const ROOM: usize = 262_172;
 
 // A place that has it.
