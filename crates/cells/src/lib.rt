@@ -7,6 +7,7 @@ mod scale;
 pub use cell::cell_range;
 pub use cell::ground_of;
 use local::Form;
+pub use refusals::count;
 pub use refusals::mode_refusal;
 pub use refusals::range_refusal;
 pub use refusals::sheet_weight;

@@ -1,7 +1,8 @@
 // The conditions that calls try before their own: the rows 1 to 4, the mode, and the weight.
 ghost use mathlib.Core.Path.{_≡_};
-ghost use Prim.Native.Nat.{_^_, min};
+ghost use Prim.Native.Nat.{_^_, _≤_, min};
 ghost use Rattle.page.specs.Sheet.{sheet-of, InRange};
+ghost use Rattle.page.specs.Sheet.{count as counts};
 ghost use Rattle.page.specs.Weight.{weight};
 ghost use Rattle.page.specs.Refusals.{outside-range};
 ghost use Rattle.page.specs.Steps.{range-refusal, mode-refusal};
@@ -14,6 +15,15 @@ fn beyond(z: i32) -> bool
     1_048_576 < n
 }
 
+// n = (d+1)(d+2)/2
+pub fn count(d: u32) -> usize
+    requires { ⌜ d ≤ 8 ⌝ }
+    ensures { λ r. ⌜ r ≡ counts d ⌝ }
+{
+    let n = d as usize;
+    (n + 1) * (n + 2) / 2
+}
+
 // The first of 1 to 4 that holds, or 0.
 pub fn range_refusal(d: u32, coefficients: &[i32], x: i32, y: i32, s: u32, k: u32) -> u32
     ensures { λ r. ⌜ r ≡ range-refusal (sheet-of d (now (coefficients .entry)) x y s k) ⌝ }
@@ -21,8 +31,7 @@ pub fn range_refusal(d: u32, coefficients: &[i32], x: i32, y: i32, s: u32, k: u3
     if 8 < d {
         return 1;
     }
-    let n = d as usize;
-    if coefficients.len() != (n + 1) * (n + 2) / 2 {
+    if coefficients.len() != count(d) {
         return 2;
     }
     if 7 < k {

@@ -67,7 +67,7 @@ pub fn judged(head: Head, values: &[i32]) -> Reading
     }
     let n = d as usize;
     let coefficients = gathered(n, values);
-    let count = (n + 1) * (n + 2) / 2;
+    let count = cells::count(d);
     let number = cells::mode_refusal(
         d,
         &coefficients[..count],

@@ -31,8 +31,7 @@ fn list_records(sheet: Reading, records: &mut [u32]) -> Listed
     ensures { λ r. ⌜ ListsRecords sheet (now (records .entry)) r (now (records .exit)) ⌝ }
 {
     let d = sheet.d;
-    let n = d as usize;
-    let count = (n + 1) * (n + 2) / 2;
+    let count = cells::count(d);
     let coefficients = sheet.coefficients;
     walk::listing(
         d,
