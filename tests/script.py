@@ -1,12 +1,15 @@
 """The script `sheet` draws what the program lists, and says in words what a refusal means.
 
 It is run as a person runs it: on the page's whole case, on every sheet of sheets/, whose pictures are compared with the second program's rasters, on
-texts that are refused by each number, on what cannot be read, and without arguments. And the picture that README.md begins with is the one that
-`sheet` draws, with the one that signs at the corners give beside it.
+texts that are refused by each number, on what cannot be read or written, and without arguments. A tree of its own, with a stand-in for `rt`, shows
+when the program is proved and built. And the picture that README.md begins with is the one that `sheet` draws, with the one that signs at the corners
+give beside it.
 """
 import importlib.machinery
 import importlib.util
+import os
 import pathlib
+import shutil
 import subprocess
 import sys
 import tempfile
@@ -14,11 +17,15 @@ import tempfile
 sys.dont_write_bytecode = True  # nothing is left in the tree
 import second
 import sheets
-from program import ROOT
+from program import BUILT, ROOT
 from second_text import START, WHOLE, WHOLE_LISTING, written
 
 SCRIPT = ROOT / "sheet"
+FULL = pathlib.Path("/dev/full")
 MARKS = {1: "██", 2: "  ", 3: "· "}
+# the character of four cells, the upper two and the lower two
+QUARTERS = {"    ": " ", "█   ": "▘", " █  ": "▝", "██  ": "▀", "  █ ": "▖", "█ █ ": "▌", " ██ ": "▞", "███ ": "▛",
+            "   █": "▗", "█  █": "▚", " █ █": "▐", "██ █": "▜", "  ██": "▄", "█ ██": "▙", " ███": "▟", "████": "█"}
 LEGEND = "[██] coloured: the curve may be here   [  ] above: f > 0 all over it   [· ] below: f < 0 all over it"
 PICTURE = f"""\
 ┌────┐
@@ -40,11 +47,19 @@ REFUSALS = [
     (written("D 1", "B 0 -1048577 0", "K 1", "M 0"), "refused by 4: the corner X or Y is outside -1,048,576 to 1,048,576, or s is above 10"),
     (written("D 1", "B 0 0 0", "K 1", "M 2"), "refused by 5: the mode is neither 0 nor 1"),
     (written("D 8", "B 0 0 0", "K 7", "M 0", "T 0 0 1"), "refused by 6: the weight is 2^62 or more"),
-    (b"", "refused by 10: line 1 is missing: the text ends before it\n    It should hold: D, d.\n"),
-    (written(*START[:2]), "refused by 10: line 3 is missing: the text ends before it\n    It should hold: K, k.\n"),
-    (WHOLE[:-1], "refused by 10: line 6 is bad, and no line end follows it: T\\t1\\t0\\t1\n    It should hold: T, i, j, coefficient.\n"),
-    (WHOLE + b"\n", "refused by 10: line 7 is bad: (empty)\n    It should hold: T, i, j, coefficient.\n"),
-    (WHOLE.replace(b"B\t0", b"B\x1b[7m\xff 0\r"), "refused by 10: line 2 is bad: B\\x1b[7m\\xff 0\\r\\t0\\t0\n    It should hold: B, X, Y, s.\n"),
+    (b"", "refused by 10: line 1 is missing: the text ends before it\n    It should hold: D<tab>d\n"),
+    (written(*START[:2]), "refused by 10: line 3 is missing: the text ends before it\n    It should hold: K<tab>k\n"),
+    (WHOLE[:-1], "refused by 10: line 6 is bad, and no line end follows it: T\\t1\\t0\\t1\n    In it \\t is a tab.\n"
+     "    It should hold: T<tab>i<tab>j<tab>coefficient\n"),
+    (WHOLE + b"\n", "refused by 10: line 7 is bad: (empty)\n    It should hold: T<tab>i<tab>j<tab>coefficient\n"),
+    (WHOLE.replace(b"B\t0", b"B\x1b[7m\xff 0\r"), "refused by 10: line 2 is bad: B\\x1b[7m\\xff 0\\r\\t0\\t0\n"
+     "    In it \\t is a tab and \\r is a carriage return.\n    It should hold: B<tab>X<tab>Y<tab>s\n"),
+    (WHOLE.replace(b"\n", b"\r\n"), "refused by 10: line 1 is bad: D\\t1\\r\n    In it \\t is a tab and \\r is a carriage return.\n"
+     "    Editors on Windows end lines with a carriage return. This takes them out: tr -d '\\r' < draft > my.sheet\n    It should hold: D<tab>d\n"),
+    (WHOLE.replace(b"\t", b" "), "refused by 10: line 1 is bad: D 1\n"
+     "    It has blanks in place of tabs. This exchanges them: tr ' ' '\\t' < draft > my.sheet\n    It should hold: D<tab>d\n"
+     "    One tab parts the fields, and a line end follows each line. A number has no plus and no zero before it.\n"
+     "    It is from -2,147,483,648 to 2,147,483,647, and only X, Y and a coefficient may be negative.\n"),
     (written(*START, "T 0 0 " + "9" * 5000), "refused by 10: line 5 is bad: T\\t0\\t0\\t" + "9" * 51 + "... (5,006 bytes)\n"),
     (b"\n" * 8193, "refused by 11: the text is longer than 8,192 bytes"),
     (b"x" * 100_000, "refused by 11: the text is longer than 8,192 bytes"),
@@ -53,8 +68,8 @@ REFUSALS = [
 
 def run(*words, given=b"", **more):
     """What the script ends with and writes."""
-    ended = subprocess.run([sys.executable, SCRIPT, *words], **({"input": given} if "stdin" not in more else {}), **more, capture_output=True)
-    return ended.returncode, ended.stdout, ended.stderr.decode(errors="replace")
+    ended = subprocess.run([SCRIPT, *words], input=given, **{"stdout": subprocess.PIPE, "stderr": subprocess.PIPE, **more})
+    return ended.returncode, ended.stdout, (ended.stderr or b"").decode(errors="replace")
 
 
 def module():
@@ -88,6 +103,13 @@ def command_checks():
         file.write_bytes(WHOLE)
         status, out, _ = run(file)
         yield "a file", (status, out) == (0, PICTURE.replace("standard input", "of no sheet").encode())
+        for odd, safe in ((b"\x1b[7m\xff\n", r"\x1b[7m\xff\n"), ("é".encode(), "é")):
+            file = pathlib.Path(folder) / os.fsdecode(odd)
+            yield f"the name {safe}, of no file", run(file)[2] == f"sheet: {safe} cannot be read: No such file or directory\n"
+            file.write_bytes(WHOLE)
+            yield f"the name {safe}", run(file)[1] == PICTURE.replace("standard input", safe).encode()
+        status, out, _ = run(file, env={**os.environ, "PYTHONIOENCODING": "ascii"})
+        yield "a name that plain signs do not show", status == 0 and out.isascii() and rb"\xe9" in out
     known = [name + ".sheet" for name in sheets.names()]
     for status, words in ((0, ["--help"]), (2, [])):
         ended, out, _ = run(*words)
@@ -102,6 +124,81 @@ def command_checks():
         counts = {f"depth     {k}", f"visited   {visited} cells", f"coloured  {coloured} of {4 ** k:,} cells"}
         yield f"the tally of {name}", counts | {f"{name}.sheet"} <= set(labels)
         yield f"the legend of {name}", picture[2 ** k + 2:] == ["", LEGEND, ""]
+
+
+def unwritten_checks():
+    """The script where what it writes goes nowhere."""
+    said = "sheet: standard output cannot be written: "
+    for unbuffered in ("", "1"):
+        env = {**os.environ, "PYTHONUNBUFFERED": unbuffered}
+        for words in (["-"], ["--list", "-"], ["--help"], []):
+            kind = " ".join(words or ["no file"]) + (", unbuffered" if unbuffered else "")
+            closed = subprocess.run(["sh", "-c", 'exec "$@" >&-', "sh", SCRIPT, *words], input=WHOLE, stderr=subprocess.PIPE, env=env)
+            yield f"standard output closed, {kind}", (closed.returncode, closed.stderr.decode()) == (2, f"{said}it is closed\n")
+            reading, writing = os.pipe()
+            os.close(reading)
+            yield f"nobody reads, {kind}", run(*words, given=WHOLE, stdout=writing, env=env) == (2, None, "")
+            os.close(writing)
+            if FULL.is_char_device():
+                with FULL.open("wb") as full:
+                    yield f"standard output full, {kind}", run(*words, given=WHOLE, stdout=full, env=env) == (2, None, f"{said}No space left on device\n")
+        if FULL.is_char_device():
+            with FULL.open("wb") as full:
+                yield "standard output full, which cannot be told", run("-", given=WHOLE, stdout=full, stderr=full, env=env)[0] == 2
+                yield "a refusal that cannot be told", run("-", stderr=full, env=env) == (1, b"", "")
+    if not FULL.is_char_device():
+        print(f"script: there is no {FULL} here, so no full output is tried")
+
+
+def build_checks():
+    """When the program is proved and built: in a tree of its own, where a stand-in for rt ends as it is told and notes that it ran."""
+    home = os.environ.get("RATTLE_HOME") or pathlib.Path(shutil.which("rt")).resolve().parent.parent
+    with tempfile.TemporaryDirectory() as folder:
+        tree = pathlib.Path(folder)
+        sources, target, program = tree / "crates" / "listing" / "src", tree / "target", tree / "target" / "bin" / "listing"
+        for place in (sources, tree / "tests", target / "bin", target / "stamp", tree / "rt"):
+            place.mkdir(parents=True)
+        for name in ("sheet", "tests/program.py", "crates.txt", "crates/listing/src/main.rt"):
+            shutil.copy(ROOT / name, tree / name)
+        # as rt does, it builds nothing where its stamp stands
+        (tree / "rt" / "rt").write_text("""#!/bin/sh
+echo "$@" >> calls
+[ -f target/stamp/listing ] || cp "$BUILT" target/bin/listing
+[ "$ENDS" = 0 ] && touch target/stamp/listing
+exit "$ENDS"
+""")
+        (tree / "rt" / "rt").chmod(0o755)
+
+        def turn(ends=0):
+            """The status, whether the picture came, what was said, and how often rt ran."""
+            (tree / "calls").write_text("")
+            env = {**os.environ, "PATH": f"{tree / 'rt'}{os.pathsep}{os.environ['PATH']}", "RATTLE_HOME": str(home), "ENDS": str(ends),
+                   "BUILT": str(BUILT / "listing")}
+            ended = subprocess.run([tree / "sheet", "-"], input=WHOLE, capture_output=True, env=env)
+            return ended.returncode, ended.stdout == PICTURE.encode(), ended.stderr.decode(), (tree / "calls").read_text().count("check listing\n")
+
+        def newer(path):
+            """Gives a source a time after the program's."""
+            late = program.stat().st_mtime_ns + 10 ** 9
+            os.utime(path, ns=(late, late))
+
+        first = "sheet: the program is not built yet. It is proved and built now, once, which takes some minutes.\n"
+        again = "sheet: the program may be older than its sources. What changed is proved and built again.\n"
+        failed = "sheet: `rt check listing` ended with status 1, so no program is kept; target/sheet.log has what rt said\n"
+        yield "the first time it is built", turn() == (0, True, first, 1)
+        yield "the second time it is not", turn() == (0, True, "", 0)
+        for path in (sources / "main.rt", sources, tree / "crates.txt"):
+            newer(path)
+            yield f"{path.name} newer: it is built again", turn() == (0, True, again, 1)
+            yield f"{path.name} newer: once", turn() == (0, True, "", 0)
+        newer(sources / "main.rt")
+        yield "a build that fails", turn(1) == (2, False, again + failed, 1) and not program.exists()
+        yield "a build that failed is not used", turn(1) == (2, False, first + failed, 1) and not program.exists()
+        yield "a build that failed is mended", turn() == (0, True, first, 1)
+        (target / "stamp" / "listing").unlink()
+        yield "a program that rt did not pass", turn(1) == (2, False, again + failed, 1)
+        program.unlink(missing_ok=True)
+        yield "a program that was taken away", turn() == (0, True, first, 1)
 
 
 def function_checks():
@@ -120,7 +217,22 @@ def function_checks():
     plain = script.shown(name, text, listing, script.PLAIN)
     yield "plain signs", [line.translate(str.maketrans("█·│", "#.|")) for line in wide[1:2 ** k + 1]] == plain[1:2 ** k + 1]
     yield "plain signs are plain", all(line.isascii() for line in plain)
+    quarters = script.shown(name, text, listing, columns=10)
+    both = zip(narrow[::2], narrow[1::2])
+    squares = [[upper[at:at + 2] + lower[at:at + 2] for at in range(0, 2 ** k, 2)] for upper, lower in both]
+    signs = ["".join(QUARTERS["".join("█" if cell == "█" else " " for cell in square)] for square in row) for row in squares]
+    yield "a quarter of a character for a cell", [line[1:-1] for line in quarters[1:2 ** (k - 1) + 1]] == signs
+    yield "a quarter's frame", quarters[0] == "┌────────┐" and quarters[2 ** (k - 1) + 1] == "└────────┘"
+    yield "a quarter's legend", "above and below are not told apart at this width, but at 18 columns." in quarters[-1]
+    for kind, needed, lines in (("9 columns", 10, script.shown(name, text, listing, columns=9)),
+                                ("17 columns, plain", 18, script.shown(name, text, listing, script.PLAIN, 17))):
+        there = int(kind.split()[0])
+        yield f"no room in {kind}", lines[0] == name and lines[-1] == f"There is no picture: it needs {needed} columns, and there are {there}."
+        yield f"the tally in {kind}", f"depth     {k}" in lines and not any("█" in line or "#" in line for line in lines)
+    yield "no room for one cell", script.picture([["0"]], script.ROUNDED, 2)[0] == []
+    yield "a quarter of which no record tells", script.four(["0", None, "+", "-"], script.ROUNDED) == "?"
     deep = written("D 0", "B 0 0 0", "K 7", "M 0", "T 0 0 -5")
+    yield "a deep sheet in 80 columns", all(len(line) <= 80 for line in script.shown("", deep, b"0\t0\t0\t-\ntotal\t1\t0\n", columns=80)[:66])
     yield "one record for a whole sheet", script.shown("", deep, b"0\t0\t0\t-\ntotal\t1\t0\n")[1] == "│" + "· " * 128 + "│"
     yield "a cell of which no record tells", script.grid([(1, 1, 0, "0"), (1, 0, 1, "-")], 1) == [[None, "0"], ["-", None]]
 
@@ -136,9 +248,12 @@ def readme_checks():
 
 
 def main():
-    if not (ROOT / "target" / "bin" / "listing").is_file():
+    if not (BUILT / "listing").is_file():
         sys.exit("script: target/bin/listing is not there: `rt check` proves and builds it")
-    checks = [*command_checks(), *function_checks(), *readme_checks()]
+    if not os.access(SCRIPT, os.X_OK):
+        sys.exit("script: ./sheet is no file that can be run")
+    run("-", given=WHOLE)  # where a source is newer than the program, this proves and builds it, and says so
+    checks = [*command_checks(), *unwritten_checks(), *build_checks(), *function_checks(), *readme_checks()]
     for name, good in checks:
         if not good:
             print(f"not as it should be: {name}")
