@@ -9,8 +9,9 @@ the length of what the listing program writes for the text, and just that. Every
 the number and the line are known from how a text was made, the second program is held to them. A run in which some refusal, some bad, missing or
 unended line, some length at the limit, some degree and depth or some mark at some level never came up fails, too.
 
-Then target/bin/listing itself is run: on the page's whole case, on input that comes in pieces, that is empty, far too long, or cannot be read, on
-a text of each kind, and on those of sheets/, whose stored listings it must write. That these are as sheets/README.md says is for tests/sheets.py.
+Then target/bin/listing itself is run: on the page's whole case, on input that comes in pieces, that is empty, far too long, or cannot be read, at all
+or after some of it, with an output that cannot be written, on a text of each kind, and on those of sheets/, whose stored listings it must write. That
+these are as sheets/README.md says is for tests/sheets.py.
 """
 import argparse
 import collections
@@ -20,6 +21,7 @@ import struct
 import subprocess
 import sys
 import time
+import tty
 
 sys.dont_write_bytecode = True  # nothing is left in the tree
 import second_text
@@ -32,6 +34,7 @@ from second_text import LONGEST, PLACES, WHOLE, WHOLE_LISTING
 REFUSALS = (1, 3, 4, 5, 6, 10, 11)
 WORDS = 8 + PLACES + 1
 SHOWN = 5
+FULL = "/dev/full"
 
 
 # ---- the program that answers many texts
@@ -161,15 +164,68 @@ def in_pieces(program, pieces):
     return subprocess.CompletedProcess(started.args, started.returncode, out, err)
 
 
+def fault_unless_told(run):
+    """What is wrong with a run that cannot read or write: nothing is to be written, and one line said."""
+    one_line = run.stderr.count(b"\n") == 1 and run.stderr.endswith(b"\n") and len(run.stderr) > 1
+    return None if not run.stdout and one_line else f"writes {run.stdout!r:.200}, and to standard error {run.stderr[:200]!r}"
+
+
+def breaking(good):
+    """A descriptor that gives some good bytes, and then fails: the near end of a terminal whose far end was left. None where there is no such thing."""
+    try:
+        near, far = os.openpty()
+    except OSError:
+        return None
+    tty.setraw(far)  # the bytes come just as they are
+    os.write(far, good)
+    os.close(far)
+    return near
+
+
+def breaks(good):
+    """Whether such a descriptor does so here."""
+    near, got = breaking(good), b""
+    try:
+        while near is not None and len(got) <= len(good):
+            more = os.read(near, len(good) + 1)
+            if not more:
+                return False
+            got += more
+    except OSError:
+        return got == good
+    finally:
+        if near is not None:
+            os.close(near)
+    return False
+
+
 def unreadable(program):
-    """What is wrong where standard input is a folder, and where it is open for writing alone: nothing is to be written, and one line said."""
-    for name, path, way in (("a folder", ROOT, os.O_RDONLY), ("open for writing alone", os.devnull, os.O_WRONLY)):
-        stdin = os.open(path, way)
+    """Runs whose standard input is a folder, is open for writing alone, or fails after some good bytes."""
+    inputs = [("a folder", lambda: os.open(ROOT, os.O_RDONLY)), ("open for writing alone", lambda: os.open(os.devnull, os.O_WRONLY))]
+    for name, good in (("a part", WHOLE[:20]), ("all of the text", WHOLE)):
+        if breaks(good):
+            inputs.append((f"that fails after {name}", lambda good=good: breaking(good)))
+        else:
+            print(f"texts: no input that fails after {name} can be made here, so none is tried")
+    for name, opened in inputs:
+        stdin = opened()
         run = subprocess.run(command(program), stdin=stdin, capture_output=True, env=settings())
         os.close(stdin)
-        one_line = run.stderr.count(b"\n") == 1 and run.stderr.endswith(b"\n") and len(run.stderr) > 1
-        wrong = None if run.stdout == b"" and one_line else f"writes {run.stdout[:200]!r}, and to standard error {run.stderr[:200]!r}"
-        yield f"standard input {name}", wrong
+        yield f"standard input {name}", fault_unless_told(run)
+
+
+def unwritable(program):
+    """Runs whose standard output is full, or open for reading alone: for a listing, and for a refusal."""
+    outputs = [("full", FULL, os.O_WRONLY), ("open for reading alone", os.devnull, os.O_RDONLY)]
+    if not pathlib.Path(FULL).is_char_device():
+        print(f"texts: there is no {FULL} here, so no full output is tried")
+        del outputs[0]
+    for name, path, way in outputs:
+        for kind, text in (("a listing", WHOLE), ("a refusal", b"")):
+            stdout = os.open(path, way)
+            run = subprocess.run(command(program), input=text, stdout=stdout, stderr=subprocess.PIPE, env=settings())
+            os.close(stdout)
+            yield f"standard output {name}, {kind}", fault_unless_told(run)
 
 
 def some(cases, expected):
@@ -194,6 +250,7 @@ def listing_runs(program, cases, expected):
     yield "one byte more in pieces", fault_of(in_pieces(program, (long, b"\n")), b"refused\t11\t0\n")
     yield "megabytes", fault_of(ended(program, WHOLE + b"T\t0\t0\t0\n" * 500_000), b"refused\t11\t0\n")
     yield from unreadable(program)
+    yield from unwritable(program)
     for kind, text, written in some(cases, expected):
         yield f"{kind}, {shown(text)}", fault_of(ended(program, text), written)
     for name in sheets.names():
