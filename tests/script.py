@@ -244,6 +244,10 @@ def readme_checks():
     readme = (ROOT / "README.md").read_text()
     yield "the pictures in README.md", "\n".join(both) in readme
     whole = "\n".join(line.replace(b"\t", b"\\t").decode() for line in WHOLE.split(b"\n"))
+    for name in sheets.names():
+        sheet = sheets.sheet(name)
+        modified, centred = (second.raster(*sheet._replace(mode=mode), [0] * 4 ** sheet.k)[2] for mode in (0, 1))
+        yield f"centred forms never colour fewer, {name}", modified <= centred
     yield "the whole case in README.md", f"printf '{whole}".replace("\n", "\\n") in readme
 
 
