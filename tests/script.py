@@ -26,6 +26,8 @@ MARKS = {1: "██", 2: "  ", 3: "· "}
 # the character of four cells, the upper two and the lower two
 QUARTERS = {"    ": " ", "█   ": "▘", " █  ": "▝", "██  ": "▀", "  █ ": "▖", "█ █ ": "▌", " ██ ": "▞", "███ ": "▛",
             "   █": "▗", "█  █": "▚", " █ █": "▐", "██ █": "▜", "  ██": "▄", "█ ██": "▙", " ███": "▟", "████": "█"}
+# what the usage says of status 2
+ENDS_WITH_2 = ("no FILE is named", "cannot be read", "there is no rt", "cannot be\nbuilt or started", "standard output cannot be written")
 LEGEND = "[██] coloured: the curve may be here   [  ] above: f > 0 all over it   [· ] below: f < 0 all over it"
 PICTURE = f"""\
 ┌────┐
@@ -113,7 +115,7 @@ def command_checks():
     known = [name + ".sheet" for name in sheets.names()]
     for status, words in ((0, ["--help"]), (2, [])):
         ended, out, _ = run(*words)
-        yield "the usage", ended == status and all(name in out.decode() for name in ["./sheet", "FILE", "--list", *known])
+        yield "the usage", ended == status and all(name in out.decode() for name in ["./sheet", "FILE", "--list", *known, *ENDS_WITH_2])
     for name in sheets.names():
         status, out, err = run(sheets.SHEETS / f"{name}.sheet")
         picture, k = out.decode().split("\n"), sheets.sheet(name).k
@@ -197,7 +199,8 @@ exit "$ENDS"
         yield "a build that failed is mended", turn() == (0, True, first, 1)
         (target / "stamp" / "listing").unlink()
         yield "a program that rt did not pass", turn(1) == (2, False, again + failed, 1)
-        program.unlink(missing_ok=True)
+        yield "a program that rt passes at last", turn() == (0, True, first, 1)
+        program.unlink()
         yield "a program that was taken away", turn() == (0, True, first, 1)
 
 
@@ -223,7 +226,7 @@ def function_checks():
     signs = ["".join(QUARTERS["".join("█" if cell == "█" else " " for cell in square)] for square in row) for row in squares]
     yield "a quarter of a character for a cell", [line[1:-1] for line in quarters[1:2 ** (k - 1) + 1]] == signs
     yield "a quarter's frame", quarters[0] == "┌────────┐" and quarters[2 ** (k - 1) + 1] == "└────────┘"
-    yield "a quarter's legend", "above and below are not told apart at this width, but at 18 columns." in quarters[-1]
+    yield "a quarter's legend", quarters[-1] == "Blank is above or below, not told apart at this width, but at 18 columns."
     for kind, needed, lines in (("9 columns", 10, script.shown(name, text, listing, columns=9)),
                                 ("17 columns, plain", 18, script.shown(name, text, listing, script.PLAIN, 17))):
         there = int(kind.split()[0])
