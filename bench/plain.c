@@ -2,180 +2,15 @@
 
    It goes the same way: the weight with a ceiling, the scaled form once, and for each cell that is visited the local form about its centre
    by Horner's rule in two turns, the range with its bend, the verdict, and then a cut, a block of the raster, or a record: one recursion for
-   rasters and one for listings. It reads and answers cases as crates/compare does, so that both can be fed one file and their answers
-   compared byte for byte; it knows only calls 3 and 4. Nothing here is proved.
+   rasters, which stands here, and one for listings, which stands in bench/plain.h with the rest. It reads and answers cases as crates/compare
+   does, so that both can be fed one file and their answers compared byte for byte; it knows only calls 3 and 4. Nothing here is proved.
 
    The proved program is for x86-64: where that is run under an emulator, a fair time asks that this file be compiled for x86-64, too. */
-#include <stdbool.h>
-#include <stddef.h>
-#include <stdint.h>
-#include <string.h>
-#include <unistd.h>
+#include "plain.h"
 
-enum { CASE = 320, ANSWER = 40, COUNT = 64, ENTRIES = 16416 };
+enum { CASE = 320, ANSWER = 40, ENTRIES = 16416 };
 
-static const uint64_t CEILING = (uint64_t)1 << 62;
-
-/* ---- numbers */
-
-static uint64_t larger(uint64_t a, uint64_t b) { return a < b ? b : a; }
-
-static uint64_t size(int64_t z) { return z < 0 ? (uint64_t)-z : (uint64_t)z; }
-
-static uint64_t capped_sum(uint64_t a, uint64_t b) { return CEILING - a < b ? CEILING : a + b; }
-
-static uint64_t capped_product(uint64_t a, uint64_t b) {
-    if (b == 0) return 0;
-    return CEILING / b < a ? CEILING : a * b;
-}
-
-static uint64_t capped_power(uint32_t n) { return n > 62 ? CEILING : (uint64_t)1 << n; }
-
-static int64_t power(uint32_t n) { return (int64_t)1 << n; }
-
-/* ---- a sheet and its weight */
-
-struct sheet {
-    uint32_t d, s, k, mode;
-    int32_t x, y;
-    size_t count;
-    int32_t coefficients[COUNT];
-};
-
-static uint64_t reach(int32_t z, uint32_t s) { return larger(size(z), size(z + power(s))); }
-
-static uint64_t row_weight(const int32_t *row, uint32_t n, uint64_t r) {
-    uint64_t sum = 0, scale = 1;
-    for (uint32_t j = 0; j <= n; j++) {
-        sum = capped_sum(sum, capped_product(size(row[j]), scale));
-        scale = capped_product(scale, r);
-    }
-    return sum;
-}
-
-static uint64_t capped_weight(const struct sheet *sheet) {
-    uint64_t r = larger(reach(sheet->x, sheet->s), reach(sheet->y, sheet->s)), sum = 0, scale = 1;
-    const int32_t *row = sheet->coefficients;
-    for (uint32_t i = 0; i <= sheet->d; i++) {
-        uint32_t n = sheet->d - i;
-        sum = capped_sum(sum, capped_product(row_weight(row, n, r), scale));
-        scale = capped_product(scale, r);
-        row += n + 1;
-    }
-    return capped_product(capped_power((sheet->k + 1) * sheet->d), sum);
-}
-
-static bool beyond(int32_t z) { return z < -1048576 || z > 1048576; }
-
-static uint32_t refusal(const struct sheet *sheet, size_t entries) {
-    if (sheet->d > 8) return 1;
-    if (sheet->count != (sheet->d + 1) * (sheet->d + 2) / 2) return 2;
-    if (sheet->k > 7) return 3;
-    if (beyond(sheet->x) || beyond(sheet->y) || sheet->s > 10) return 4;
-    if (sheet->mode > 1) return 5;
-    if (capped_weight(sheet) == CEILING) return 6;
-    if (entries < (size_t)1 << 2 * sheet->k) return 7;
-    return 0;
-}
-
-/* ---- forms */
-
-struct form {
-    uint32_t degree;
-    int64_t places[45];
-};
-
-static struct form scaled_form(const struct sheet *sheet) {
-    struct form form = {.degree = sheet->d};
-    size_t at = 0;
-    for (uint32_t i = 0; i <= sheet->d; i++)
-        for (uint32_t j = 0; j <= sheet->d - i; j++, at++) {
-            int32_t a = sheet->coefficients[at];
-            /* beside a zero coefficient the power need not fit */
-            if (a != 0) form.places[at] = a * power((sheet->k + 1) * (sheet->d - i - j));
-        }
-    return form;
-}
-
-/* The sum of c(j) (u + h t)^j by Horner's rule. */
-static void expand(const int64_t *c, uint32_t n, int64_t u, int64_t h, int64_t row[9]) {
-    memset(row, 0, 9 * sizeof *row);
-    for (uint32_t j = n + 1; j-- > 0;) {
-        for (uint32_t a = n - j; a > 0; a--) row[a] = row[a] * u + row[a - 1] * h;
-        row[0] = row[0] * u + c[j];
-    }
-}
-
-/* The second variable moved, and the two variables exchanged. */
-static void turn(const struct form *form, int64_t u, int64_t h, struct form *turned) {
-    uint32_t d = form->degree;
-    const int64_t *c = form->places;
-    turned->degree = d;
-    for (uint32_t i = 0; i <= d; i++) {
-        int64_t row[9];
-        expand(c, d - i, u, h, row);
-        size_t at = i;
-        for (uint32_t b = 0; b <= d - i; b++) {
-            turned->places[at] = row[b];
-            at += d + 1 - b;
-        }
-        c += d + 1 - i;
-    }
-}
-
-enum verdict { COLOURED = 1, ABOVE = 2, BELOW = 3 };
-
-struct range {
-    enum verdict verdict;
-    int64_t lower, upper;
-    uint64_t bend;
-};
-
-static struct range range_of(const struct form *form, uint32_t mode) {
-    uint64_t fall = 0, rise = 0, bend = 0;
-    const int64_t *g = form->places;
-    for (uint32_t a = 0; a <= form->degree; a++)
-        for (uint32_t b = 0; b <= form->degree - a; b++, g++) {
-            if (a + b == 0) continue;
-            uint64_t n = size(*g);
-            bool even = mode == 0 && a % 2 == 0 && b % 2 == 0;
-            if (!even || *g < 0) fall += n;
-            if (!even || *g > 0) rise += n;
-            if (a + b >= 2) bend += n;
-        }
-    int64_t lower = form->places[0] - (int64_t)fall, upper = form->places[0] + (int64_t)rise;
-    return (struct range){lower > 0 ? ABOVE : upper < 0 ? BELOW : COLOURED, lower, upper, bend};
-}
-
-/* ---- the walk */
-
-struct walk {
-    const struct sheet *sheet;
-    struct form form;
-    int64_t across, along;
-    uint32_t visited, coloured;
-    uint8_t *raster;
-    uint32_t *records;
-    size_t length;
-    struct range last;
-};
-
-/* No walk answers the bounds or the bend of a cell, and a compiler would leave out the sum of the bend. The proved program works out all three
-   for each cell. So the range of every cell is kept in the walk, and at its end the last one is read from there into this. */
-static volatile uint64_t sink;
-
-static int64_t centre(int64_t corner, uint32_t p, int64_t h) { return corner + (2 * (int64_t)p + 1) * h; }
-
-static enum verdict verdict_on(struct walk *walk, uint32_t level, uint32_t p, uint32_t q) {
-    const struct sheet *sheet = walk->sheet;
-    int64_t h = power(sheet->s + sheet->k - level);
-    struct form half, there;
-    turn(&walk->form, centre(walk->along, q, h), h, &half);
-    turn(&half, centre(walk->across, p, h), h, &there);
-    walk->last = range_of(&there, sheet->mode);
-    walk->visited++;
-    return walk->last.verdict;
-}
+/* ---- the raster */
 
 /* Row by row, the bytes of the finest cells that the cell covers. */
 static void paint_block(struct walk *walk, uint32_t level, uint32_t p, uint32_t q, uint8_t colour) {
@@ -206,35 +41,15 @@ static void cut(struct walk *walk, uint32_t level, uint32_t p, uint32_t q) {
     examine(walk, level + 1, 2 * p + 1, 2 * q + 1);
 }
 
-static void list_parts(struct walk *walk, uint32_t level, uint32_t p, uint32_t q);
-
-static void list_cell(struct walk *walk, uint32_t level, uint32_t p, uint32_t q) {
-    enum verdict verdict = verdict_on(walk, level, p, q);
-    if (verdict == COLOURED && level < walk->sheet->k) {
-        list_parts(walk, level, p, q);
-        return;
-    }
-    walk->coloured += verdict == COLOURED;
-    walk->records[walk->length++] = (uint32_t)verdict + 4 * p + 512 * q + 65536 * level;
-}
-
-static void list_parts(struct walk *walk, uint32_t level, uint32_t p, uint32_t q) {
-    list_cell(walk, level + 1, 2 * p, 2 * q);
-    list_cell(walk, level + 1, 2 * p + 1, 2 * q);
-    list_cell(walk, level + 1, 2 * p, 2 * q + 1);
-    list_cell(walk, level + 1, 2 * p + 1, 2 * q + 1);
+static void paint_sheet(struct walk *walk, uint8_t *raster) {
+    walk->raster = raster;
+    examine(walk, 0, 0, 0);
+    sink = walk->last.bend;
 }
 
 /* ---- cases and answers */
 
-static uint32_t word(const uint8_t *bytes, size_t i) {
-    const uint8_t *b = bytes + 4 * i;
-    return (uint32_t)b[0] | (uint32_t)b[1] << 8 | (uint32_t)b[2] << 16 | (uint32_t)b[3] << 24;
-}
-
 static int32_t signed_of(uint32_t code) { return code < 0x80000000u ? (int32_t)code : -1 - (int32_t)(code - 0x80000000u); }
-
-static size_t least(size_t a, size_t b) { return a < b ? a : b; }
 
 static struct sheet sheet_of(const uint8_t *bytes) {
     struct sheet sheet = {
@@ -243,30 +58,6 @@ static struct sheet sheet_of(const uint8_t *bytes) {
     };
     for (size_t i = 0; i < COUNT; i++) sheet.coefficients[i] = signed_of(word(bytes, 16 + i));
     return sheet;
-}
-
-static void put_number(uint8_t *out, uint64_t number, size_t bytes) {
-    for (size_t i = 0; i < bytes; i++) out[i] = (uint8_t)(number >> 8 * i);
-}
-
-static bool write_all(const uint8_t *bytes, size_t n) {
-    while (n > 0) {
-        ssize_t put = write(STDOUT_FILENO, bytes, n);
-        if (put <= 0) return false;
-        bytes += put;
-        n -= (size_t)put;
-    }
-    return true;
-}
-
-static bool read_case(uint8_t *bytes) {
-    size_t n = 0;
-    while (n < CASE) {
-        ssize_t got = read(STDIN_FILENO, bytes + n, CASE - n);
-        if (got <= 0) return false;
-        n += (size_t)got;
-    }
-    return true;
 }
 
 static bool write_answer(const uint64_t words[5]) {
@@ -279,15 +70,12 @@ static bool write_answer(const uint64_t words[5]) {
 static bool walk_sheet(const struct sheet *sheet, size_t entries, uint8_t *raster, uint32_t *records) {
     uint32_t number = refusal(sheet, entries);
     if (number != 0) return write_answer((uint64_t[5]){1, number});
-    int64_t unit = power(sheet->k + 1);
-    struct walk walk = {.sheet = sheet, .form = scaled_form(sheet), .across = unit * sheet->x, .along = unit * sheet->y, .raster = raster, .records = records};
+    struct walk walk = walk_of(sheet);
     if (raster != NULL) {
-        examine(&walk, 0, 0, 0);
-        sink = walk.last.bend;
+        paint_sheet(&walk, raster);
         return write_answer((uint64_t[5]){0, walk.visited, walk.coloured});
     }
-    list_cell(&walk, 0, 0, 0);
-    sink = walk.last.bend;
+    list_sheet(&walk, records);
     return write_answer((uint64_t[5]){0, walk.length, walk.visited, walk.coloured});
 }
 
@@ -308,7 +96,7 @@ static bool listing_case(const struct sheet *sheet, size_t entries) {
 
 static bool one_case(void) {
     uint8_t bytes[CASE];
-    if (!read_case(bytes)) return false;
+    if (!read_all(bytes, CASE)) return false;
     struct sheet sheet = sheet_of(bytes);
     size_t entries = least(word(bytes, 15), ENTRIES);
     switch (word(bytes, 0)) {
