@@ -18,7 +18,7 @@ use Rattle.page.specs.SheetText.{lines, fields, all-digits, amount, sign
 use Rattle.page.specs.ListingText.{digits-within, decimal, record-line, total-line, listing-text, written-text}
 
 -- ---- the whole case
-abbrev whole-in : List ℕ
+abbrev pub whole-in : List ℕ
 whole-in =
     68 ∷ 9 ∷ 49 ∷ 10 ∷ 66 ∷ 9 ∷ 48 ∷ 9 ∷ 48 ∷ 9 ∷ 48 ∷ 10 ∷ 75 ∷ 9 ∷ 49 ∷ 10 ∷ 77 ∷ 9 ∷ 48 ∷ 10 ∷ 84 ∷ 9 ∷ 48 ∷ 9 ∷ 49 ∷ 9 ∷ 45 ∷ 49 ∷ 10 ∷ 84 ∷ 9 ∷ 49 ∷ 9 ∷ 48 ∷ 9 ∷ 49 ∷ 10 ∷ []
 

@@ -1,7 +1,6 @@
 -- Texts and what `read` answers, computed: the page's whole case, and two that are refused.
 use mathlib.Core.Path.{_≡_, refl}
-use mathlib.Core.List.{List, [], _∷_, flatMap}
-use Prim.Native.Nat.{ℕ}
+use mathlib.Core.List.{[], _∷_, flatMap}
 use lib.IntN.{pos, negsuc}
 use lib.ListN.{replicate}
 use Rattle.algebra.specs.Sum.{sumℕ, run, span, _⋯_}
@@ -9,11 +8,8 @@ use Rattle.algebra.specs.Triangle.{row-start}
 use Rattle.page.specs.Weight.{weight}
 use Rattle.page.specs.Refusals.{table, first}
 use Rattle.page.specs.SheetText.{lines, fields, all-digits, amount, terms-from, text-of, in-order, outcome}
+use Rattle.page.proofs.TextSamples.{whole-in}
 use Rattle.reading.specs.Answers.{reading}
-
-abbrev whole-in : List ℕ
-whole-in =
-    68 ∷ 9 ∷ 49 ∷ 10 ∷ 66 ∷ 9 ∷ 48 ∷ 9 ∷ 48 ∷ 9 ∷ 48 ∷ 10 ∷ 75 ∷ 9 ∷ 49 ∷ 10 ∷ 77 ∷ 9 ∷ 48 ∷ 10 ∷ 84 ∷ 9 ∷ 48 ∷ 9 ∷ 49 ∷ 9 ∷ 45 ∷ 49 ∷ 10 ∷ 84 ∷ 9 ∷ 49 ∷ 9 ∷ 48 ∷ 9 ∷ 49 ∷ 10 ∷ []
 
 answers :
     (reading whole-in

@@ -44,7 +44,7 @@ pub record FieldRead (line : List ℕ) (at : ℕ) (negative : Bool) (r : Field) 
   pub step : (ns : List Bool) → numbers (negative ∷ ns) (fields-after line at) ≡ by-field line ns r
   pub within : end-of r ≤ length line
 
--- ---- `line_numbers`
+-- ---- `numbers_of`
 abbrev pub numbers-told : ℕ → Bool → List ℤ → Numbers
 numbers-told n ok zs = cond ok (good (take n zs)) bad
 

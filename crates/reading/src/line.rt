@@ -53,7 +53,7 @@ fn bad_line() -> Numbers
 }
 
 // The numbers of a line that has to begin with the letter and to hold `count` of them, each negative only where `signs` says so.
-fn line_numbers(line: &[u8], letter: u8, count: usize, signs: [bool; 3]) -> Numbers
+fn numbers_of(line: &[u8], letter: u8, count: usize, signs: [bool; 3]) -> Numbers
     requires { ⌜ (count ≤ 3) × (length signs ≡ 3) ⌝ }
     ensures { λ r. ⌜ LineRead (now (line .entry)) letter count signs r ⌝ }
 {
@@ -95,7 +95,7 @@ pub fn take_line(text: &[u8], at: usize, letter: u8, count: usize, signs: [bool;
             values: [0; 3],
         };
     }
-    let numbers = line_numbers(&text[at..end], letter, count, signs);
+    let numbers = numbers_of(&text[at..end], letter, count, signs);
     let values = numbers.values;
     Taken {
         good: numbers.good,

@@ -16,23 +16,23 @@ find-requires c κs = search needs
 returns : tie.Need-returns
 returns c = let s = c .before .before .before in untaken (s .args .text .now) (s .args .at) (s .args .letter) (s .args .count) (s .args .signs) (found (c .before)) (omega arith) _ _ refl (omega arith)
 
-sub-line-numbers : tie.Need-sub-line-numbers
-sub-line-numbers c = search needs
+sub-numbers-of : tie.Need-sub-numbers-of
+sub-numbers-of c = search needs
 
-part-line-numbers-start : tie.Need-part-line-numbers-start
-part-line-numbers-start c = search needs
+part-numbers-of-start : tie.Need-part-numbers-of-start
+part-numbers-of-start c = search needs
 
-part-line-numbers-end : tie.Need-part-line-numbers-end
-part-line-numbers-end c = search needs
+part-numbers-of-end : tie.Need-part-numbers-of-end
+part-numbers-of-end c = search needs
 
-line-numbers-requires : tie.Need-line-numbers-requires
-line-numbers-requires c κs = search needs
+numbers-of-requires : tie.Need-numbers-of-requires
+numbers-of-requires c κs = search needs
 
 add-t9 : tie.Need-add-t9
 add-t9 c = search needs
 
 returns-2 : tie.Need-returns-2
-returns-2 c = let s = c .before .before .before .before .before .before in let e = c .before .line-numbers .ensures in taken (s .args .text .now) (s .args .at) (s .args .letter) (s .args .count) (s .args .signs) (found (c .before .before .before .before)) (omega arith) (e .read) (e .three)
+returns-2 c = let s = c .before .before .before .before .before .before in let e = c .before .numbers-of .ensures in taken (s .args .text .now) (s .args .at) (s .args .letter) (s .args .count) (s .args .signs) (found (c .before .before .before .before)) (omega arith) (e .read) (e .three)
 
 pub take-line-spec : {M : Type 1} → statement M
 take-line-spec =
@@ -40,9 +40,9 @@ take-line-spec =
     (tie.spec
     find-requires
     returns
-    sub-line-numbers
-    part-line-numbers-start
-    part-line-numbers-end
-    line-numbers-requires
+    sub-numbers-of
+    part-numbers-of-start
+    part-numbers-of-end
+    numbers-of-requires
     add-t9
     returns-2)

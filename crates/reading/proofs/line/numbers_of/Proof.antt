@@ -1,4 +1,4 @@
--- `reading::line::line_numbers` meets its contract: the letter, and then field by field.
+-- `reading::line::numbers_of` meets its contract: the letter, and then field by field.
 use mathlib.Core.Path.{_≡_, sym, _∙_, ap, subst}
 use mathlib.Core.Bool.{false}
 use mathlib.Core.List.{_∷_}
@@ -15,8 +15,8 @@ use Rattle.reading.specs.Steps.{FieldRead}
 use Rattle.reading.proofs.Numerals.{read32}
 use Rattle.reading.proofs.Parting.{Finds, finds}
 use Rattle.reading.proofs.Counting.{Counting, other-letter, counting-start, counting-fault, counting-next, counting-end, next-sign, bad-read}
-use Rattle.reading.proofs.line.line_numbers.Statement.{statement}
-use Rattle.reading.proofs.line.line_numbers.Tie as tie
+use Rattle.reading.proofs.line.numbers_of.Statement.{statement}
+use Rattle.reading.proofs.line.numbers_of.Tie as tie
 
 abbrev Inv-loop : tie.InvT-loop
 Inv-loop line letter count signs at₀ values₀ i₀ at values i = Counting line letter count signs at values i
@@ -100,8 +100,8 @@ loop-again c = let a = c .before .before .before in next a (c .before .field .gi
 returns-3 : tie.Need-returns-3 Inv-loop μ-loop
 returns-3 c = let l = c .before .loop in record { read = counting-end _ _ _ _ (l .at) (l .values) (l .i) (l .inv) (omega arith); three = l .inv .long }
 
-pub line-numbers-spec : {M : Type 1} → statement M
-line-numbers-spec =
+pub numbers-of-spec : {M : Type 1} → statement M
+numbers-of-spec =
     tie.close
     (tie.spec
     Inv-loop
