@@ -10,9 +10,10 @@ use lib.IntN.{ℤ, pos}
 use lib.ListN.{take, drop}
 use lib.Seq.{getD-take}
 use Rattle.page.specs.SheetText.{signed, unsigned, Line, lines, number-at, whole-at, Text, bad-line, line-then, terms-from, text-of}
-use Rattle.reading.specs.declared.Taken.{Taken}
+use Rattle.lines.specs.declared.Taken.{Taken}
 use Rattle.reading.specs.declared.Head.{Head}
-use Rattle.reading.specs.Steps.{LineTaken, head-by, HeadRead}
+use Rattle.lines.specs.Steps.{LineTaken}
+use Rattle.reading.specs.Steps.{head-by, HeadRead}
 
 -- ---- a line that is taken is good or bad
 module _ {text : List ℕ} {at letter n : ℕ} {signs : List Bool} {r : Taken} (t : LineTaken text at letter n signs r) (number : ℕ) (rest : List ℤ → List Line → Text) where

@@ -11,8 +11,9 @@ use lib.IntN.{ℤ}
 use lib.ListN.{length, getD, set, take, drop, length-set}
 use lib.Seq.{drop-cons, drop-length, take-all}
 use Rattle.page.specs.SheetText.{signed, unsigned, Line, before-line, lines, Term, term-of, is-admitted, Said, Text, bad-line, with-terms, line-then, terms-from}
-use Rattle.reading.specs.declared.Taken.{Taken}
-use Rattle.reading.specs.Steps.{LineTaken, place-of, EntersTerm, Tables, TermTaken, TermsRead}
+use Rattle.lines.specs.declared.Taken.{Taken}
+use Rattle.lines.specs.Steps.{LineTaken}
+use Rattle.reading.specs.Steps.{place-of, EntersTerm, Tables, TermTaken, TermsRead}
 use Rattle.reading.proofs.Heads.{line-bad, line-good}
 use Rattle.reading.proofs.Tables.{enter-new, enter-kept, admits}
 

@@ -1,6 +1,4 @@
 // Reading a sheet text: the whole sheet by value, or a refusal.
-mod digits;
-mod line;
 mod opening;
 mod sheet;
 mod terms;
@@ -18,32 +16,6 @@ pub struct Reading {
     pub k: u32,
     pub mode: u32,
     pub coefficients: [i32; 45],
-}
-
-// What a field holds: a number; one outside 32 bits, or negative where it may not be; or none.
-enum Number {
-    Whole(i32),
-    Outside,
-    Malformed,
-}
-
-// A number and where its field ends, or that the field is none or holds none.
-enum Field {
-    Whole { value: i32, end: usize },
-    Fault,
-}
-
-// The numbers of a line, zeros after the last; where it is bad, zeros.
-struct Numbers {
-    pub good: bool,
-    pub values: [i32; 3],
-}
-
-// The numbers of a line of a text, and where the next line begins.
-struct Taken {
-    pub good: bool,
-    pub next: usize,
-    pub values: [i32; 3],
 }
 
 // What the first four lines say, and where the fifth begins; or the line that is bad, and zeros.

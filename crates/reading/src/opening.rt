@@ -1,6 +1,6 @@
 // The first four lines of a text: `D` d; `B` X Y s; `K` k; `M` mode.
 use crate::Head;
-use crate::line::take_line;
+use lines::take_line;
 ghost use mathlib.Core.Path.{_≡_};
 ghost use lib.IntN.{natAbs};
 ghost use lib.ListN.{length};

@@ -1,6 +1,6 @@
 // The lines after the fourth: zero or more `T` i j coefficient, in any order, no (i,j) twice, i + j ≤ the declared d, i and j at most 8.
-use crate::line::take_line;
 use crate::opening::size;
+use lines::take_line;
 ghost use mathlib.Core.Path.{_≡_};
 ghost use mathlib.Core.List.{[]};
 ghost use Prim.Native.Nat.{_≤_, _<_};

@@ -1,7 +1,7 @@
 -- `reading::opening::head_of` meets its contract, number by number.
 use lib.IntN.{pos}
 use lib.ListN.{getD}
-use Rattle.reading.proofs.Numerals.{read32, sized}
+use Rattle.lines.proofs.Numerals.{read32, sized}
 use borrow.Author.Needs.{needs}
 use Rattle.reading.proofs.opening.head_of.Statement.{statement}
 use Rattle.reading.proofs.opening.head_of.Tie as tie

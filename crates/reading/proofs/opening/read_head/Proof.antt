@@ -2,7 +2,7 @@
 use borrow.Author.Tests.{not-true, not-false}
 use mathlib.Core.List.{[], _∷_}
 use Rattle.page.specs.SheetText.{signed, unsigned}
-use Rattle.reading.specs.Steps.{LineTaken}
+use Rattle.lines.specs.Steps.{LineTaken}
 use Rattle.reading.proofs.Heads.{bad-1, bad-2, bad-3, bad-4, all-four}
 use borrow.Author.Needs.{needs}
 use Rattle.reading.proofs.opening.read_head.Statement.{statement}

@@ -2,7 +2,7 @@
 use mathlib.Core.List.{[], _∷_}
 use borrow.Author.Tests.{not-true, not-false}
 use Rattle.page.specs.SheetText.{signed, unsigned}
-use Rattle.reading.specs.Steps.{LineTaken}
+use Rattle.lines.specs.Steps.{LineTaken}
 use Rattle.reading.proofs.Naming.{term-bad, term-refused, term-entered}
 use borrow.Author.Needs.{needs}
 use Rattle.reading.proofs.terms.term_line.Statement.{statement}

@@ -1,0 +1,4 @@
+pub mod Numerals
+pub mod Parting
+pub mod Counting
+pub mod Taking
