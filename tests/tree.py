@@ -19,8 +19,6 @@ import sys
 ROOT = pathlib.Path(__file__).resolve().parent.parent
 LONGEST = 400
 CALLS = ("sheet", "walk", "reading", "text")
-# public functions of theirs that are no calls: what is lent to one
-SPACES = {("text", "place")}
 # what is of Type 0 and no statement: a kind of thing
 KINDS = {("forms", "Points", "Point"), ("verdicts", "Walking", "Verdicts")}
 CITED = re.compile(r"`(crates/[^`]+\.antt)`((?:,?\s+`[^`/]+`)+)")
@@ -132,7 +130,7 @@ def given(head, answer):
     plain = [name if kind == "" else f"(now ({name} .entry))" for name, kind in kinds.items() if kind != "&mut "]
     lent = [name for name, kind in kinds.items() if kind == "&mut "]
     said = " ".join(plain).replace("d (now (coefficients .entry)) x y s k", "(sheet-of d (now (coefficients .entry)) x y s k)")
-    return " ".join([said, *(f"(now ({name} .entry))" for name in lent), answer, *(f"(now ({name} .exit))" for name in lent)])
+    return " ".join(filter(None, [said, *(f"(now ({name} .entry))" for name in lent), answer, *(f"(now ({name} .exit))" for name in lent)]))
 
 
 def contracts():
@@ -145,8 +143,6 @@ def contracts():
             yield f"crates/{crate}/src/lib.rt has no public call"
         for number in calls:
             call = re.search(r"fn (\w+)", lines[number])[1]
-            if (crate, call) in SPACES:
-                continue
             # the head of the function: up to the line that opens its body
             end = next(n for n in range(number, len(lines)) if lines[n].rstrip().endswith("{"))
             head = "\n".join(lines[number:end + 1])

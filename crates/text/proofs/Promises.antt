@@ -6,14 +6,14 @@ use Prim.Native.Nat.{ℕ, _≤_, _<_}
 use native.Mathlib.Omega.{arith}
 use borrow.Author.Tests.{lt-ltb, le-ltb}
 use lib.Dec.{ltb}
-use lib.ListN.{length, take, drop, length-append}
+use lib.ListN.{length, take, drop, length-append, length-replicate}
 use lib.Seq.{take-at}
 use Rattle.page.specs.SheetText.{outcome}
 use Rattle.page.specs.ListingText.{text-after, written-text}
 use Rattle.writing.specs.Steps.{Put}
 use Rattle.writing.proofs.Puts.{put-over}
-use Rattle.text.specs.Answers.{room, written-length, written-place}
-use Rattle.text.specs.Promises.{AnswerPromise, OneAnswer, WrittenText}
+use Rattle.text.specs.Answers.{room, fresh, written-length, written-place}
+use Rattle.text.specs.Promises.{PlacePromise, AnswerPromise, OnePlace, OneAnswer, WrittenText}
 
 -- ---- a place without the room
 pub no-room : (text old : List ℕ) → length old < room → AnswerPromise text old 0 old
@@ -33,6 +33,9 @@ module _ (text old : List ℕ) (h : room ≤ length old) where
   unfolding written-length written-place
   found p = (p .0 ∙ rw there, p .1 ∙ rw there)
 
+pub one-place : OnePlace
+one-place r t p q = p ∙ sym q
+
 pub one-answer : OneAnswer
 one-answer text old r t now after p q = (p .0 ∙ sym (q .0), p .1 ∙ sym (q .1))
 
@@ -42,7 +45,15 @@ the-text text old r now p h =
     ap (λ n. take n now) (q .0) ∙ ap (take (length (written-text text))) (q .1) ∙ take-at (written-text text) (drop (length (written-text text)) old) (length (written-text text)) refl
 
 -- ---- what is written lies within the place
-pub lies-within : (text old : List ℕ) {r : ℕ} {now : List ℕ} → room ≤ length old → AnswerPromise text old r now → r ≤ length now
+lies-within : (text old : List ℕ) {r : ℕ} {now : List ℕ} → room ≤ length old → AnswerPromise text old r now → r ≤ length now
 lies-within text old h p =
     let q = found text old h p in let a = length-append (written-text text) (drop (length (written-text text)) old) in let b = ap length (q .1) in let c = q .0 in
     omega (arith, a, b, c)
+
+has-room : {old : List ℕ} → PlacePromise old → room ≤ length old
+unfolding fresh
+has-room p = let n = ap length p in let m = length-replicate {A = ℕ} room 0 in omega (arith, n, m)
+
+-- so does what is written in the place that `place` gives
+pub lies-in-fresh : (text : List ℕ) {old : List ℕ} {r : ℕ} {now : List ℕ} → PlacePromise old → AnswerPromise text old r now → r ≤ length now
+lies-in-fresh text {old} p q = lies-within text old (has-room p) q

@@ -5,7 +5,7 @@ ghost use mathlib.Core.Path.{_≡_};
 ghost use Prim.Native.Nat.{_≤_};
 ghost use lib.ListN.{length};
 ghost use Rattle.text.specs.Answers.{room};
-ghost use Rattle.text.specs.Promises.{AnswerPromise};
+ghost use Rattle.text.specs.Promises.{PlacePromise, AnswerPromise};
 ghost use Rattle.text.specs.Steps.{FromText, ListsRecords, Lists};
 
 // Room enough for the text of any sheet: 16 bytes for each of 16,384 records, and 28 for the total.
@@ -13,7 +13,7 @@ pub const ROOM: usize = 262_172;
 
 // A place that has it.
 pub fn place() -> [u8; ROOM]
-    ensures { λ r. ⌜ room ≡ length r ⌝ }
+    ensures { λ r. ⌜ PlacePromise r ⌝ }
 {
     [0; ROOM]
 }

@@ -1,17 +1,16 @@
 -- `listing::respond` is safe: the answer lies within the place.
 use mathlib.Core.Path.{sym}
 use Prim.Native.Nat.{_≤_}
-use native.Mathlib.Omega.{arith}
 use lib.ListN.{length}
 use lib.Seq.{length-take-le}
-use Rattle.text.proofs.Promises.{lies-within}
+use Rattle.text.proofs.Promises.{lies-in-fresh}
 use borrow.Author.Needs.{needs}
 use Rattle.listing.proofs.respond.Statement.{statement}
 use Rattle.listing.proofs.respond.Tie as tie
 
 -- what is written lies within the place
 enough : (c : tie.After-answer) → c .answer .result ≤ length (c .answer .last .1 .0)
-enough c = lies-within _ (c .before .before .place .result) (let e = c .before .before .place .ensures in omega (arith, e)) (c .answer .ensures)
+enough c = lies-in-fresh _ (c .before .before .place .ensures) (c .answer .ensures)
 
 place-requires : tie.Need-place-requires
 place-requires c κs = search needs

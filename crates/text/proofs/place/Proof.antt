@@ -1,0 +1,12 @@
+-- `text::place` gives zeros.
+use mathlib.Core.Path.{refl}
+use Rattle.text.specs.Answers.{fresh}
+use Rattle.text.proofs.place.Statement.{statement}
+use Rattle.text.proofs.place.Tie as tie
+
+returns : tie.Need-returns
+unfolding fresh
+returns c = refl
+
+pub place-spec : {M : Type 1} → statement M
+place-spec = tie.close (tie.spec returns)
