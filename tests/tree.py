@@ -1,9 +1,10 @@
 """The tree keeps its promises about itself.
 
-- docs/PROMISES.md names theorems by file and name: each is declared, and public, in that file. It names each must-fail edit
-  once.
-- Where its table has the columns 'statement' and 'theorem', the statement is closed, and the theorem is declared with just that
-  statement as its type, brought in from the file of specs/. Every other statement of such a file has its row too.
+- docs/PROMISES.md and docs/PAGE.md name definitions, theorems, code and tests by file and name: each is declared in that file, and
+  public where another file may bring it in. The must-fail edits that they name are there, and docs/PROMISES.md has a row for each.
+- Where a table of docs/PROMISES.md has the columns 'statement' and 'theorem', the statement is closed, and the theorem is declared with
+  just that statement as its type, brought in from the file of specs/. Every other statement of such a file has its row too.
+- docs/PAGE.md has in each row a sentence, a definition, and what stands behind it: something that is named.
 - Every file of a crate that a document names stands in the tree.
 - No axiom and no hole stands in a crate.
 - No file of a crate is over 400 lines, and none brings in a name that it does not use.
@@ -21,7 +22,18 @@ LONGEST = 400
 CALLS = ("sheet", "walk", "reading", "text")
 # what is of Type 0 and no statement: a kind of thing
 KINDS = {("forms", "Points", "Point"), ("verdicts", "Walking", "Verdicts")}
-CITED = re.compile(r"`(crates/[^`]+\.antt)`((?:,?\s+`[^`/]+`)+)")
+# the documents that cite by file and name
+CITING = ("PROMISES.md", "PAGE.md")
+CITED = re.compile(r"`((?:crates|tests)/[^`]+\.(?:antt|rt|py))`((?:,?\s+`[^`/]+`)+)")
+# how a name is declared, by the file's ending; a sample, which no file brings in, need not be public
+DECLARED = {
+    ".antt": r"^\s*(?:(?:unfoldable|abbrev) )*pub (?:(?:record|data) )?{} ",
+    "Samples.antt": r"^\s*(?:(?:unfoldable|abbrev) )*(?:pub )?{} ",
+    ".rt": r"^(?:pub )?(?:fn|struct|enum|const) {}\b",
+    ".py": r"^(?:def {}\(|{} = )",
+}
+EDIT = r"`(\w+/must-fail/\w+)`"
+SENTENCES = ["sentence", "definition", "theorem, edit or test"]
 PLACES = re.compile("/(?:" + "|".join(("opt", "home", "root", "work", "tmp", "usr")) + ")/")
 
 
@@ -35,25 +47,32 @@ def code_of(path):
     return [line.split(mark)[0] for line in path.read_text().splitlines()]
 
 
-def promises():
-    cited = 0
-    for file, names in CITED.findall((ROOT / "docs" / "PROMISES.md").read_text()):
-        path = ROOT / file
-        text = path.read_text() if path.exists() else ""
-        for name in re.findall(r"`([^`]+)`", names):
-            cited += 1
-            if not re.search(rf"^\s*((unfoldable|abbrev) )*pub ((record|data) )?{re.escape(name)} ", text, re.M):
-                yield f"docs/PROMISES.md cites {name}, which {file} does not declare"
-    if not cited:
-        yield "docs/PROMISES.md cites no theorem"
+def document(page):
+    return (ROOT / "docs" / page).read_text()
+
+
+def citations():
+    for page in CITING:
+        cited = CITED.findall(document(page))
+        if not cited:
+            yield f"docs/{page} cites nothing"
+        for file, names in cited:
+            path = ROOT / file
+            text = path.read_text() if path.exists() else ""
+            ending = max((e for e in DECLARED if file.endswith(e)), key=len)
+            for name in re.findall(r"`([^`]+)`", names):
+                if not re.search(DECLARED[ending].replace("{}", re.escape(name)), text, re.M):
+                    yield f"docs/{page} cites {name}, which {file} does not declare"
 
 
 def edits():
-    text = (ROOT / "docs" / "PROMISES.md").read_text()
-    named = re.findall(r"^\| `(\w+/must-fail/\w+)` ", text, re.M)
-    tried = [f"{p.parent.parent.name}/must-fail/{p.stem}" for p in ROOT.glob("crates/*/must-fail/*.edit")]
-    for name in sorted(set(named) ^ set(tried)) + sorted({n for n in named if named.count(n) > 1}):
-        yield f"docs/PROMISES.md and crates/ do not agree on the edit {name}"
+    tried = {f"{p.parent.parent.name}/must-fail/{p.stem}" for p in ROOT.glob("crates/*/must-fail/*.edit")}
+    for page in CITING:
+        for name in sorted(set(re.findall(EDIT, document(page))) - tried):
+            yield f"docs/{page} names the edit {name}, which is not in the tree"
+    rows = re.findall(rf"^\| {EDIT} ", document("PROMISES.md"), re.M)
+    for name in sorted(name for name in tried if rows.count(name) != 1):
+        yield f"docs/PROMISES.md has {rows.count(name)} rows for the edit {name}"
 
 
 def mentions():
@@ -77,17 +96,33 @@ def brings(path, crate, file, name):
     return any(name == item.strip() for line in lists for item in line.split(","))
 
 
-def stated():
-    """The rows of docs/PROMISES.md under the columns 'statement' and 'theorem': those two cells of each."""
+def tables(page):
+    """The rows of a document's tables: the columns of the table, and the cells of the row."""
     columns = []
-    for line in (ROOT / "docs" / "PROMISES.md").read_text().splitlines():
+    for line in document(page).splitlines():
         cells = [cell.strip() for cell in re.split(r"(?<!\\)\|", line)[1:-1]]
         if not cells:
             columns = []
         elif not columns:
             columns = cells
-        elif columns[-2:] == ["statement", "theorem"] and not set(line) <= set("|-: "):
-            yield cells[-2:]
+        elif not all(re.fullmatch(":?-+:?", cell) for cell in cells):
+            yield columns, cells
+
+
+def stated():
+    """The rows of docs/PROMISES.md under the columns 'statement' and 'theorem': those two cells of each."""
+    return [cells[-2:] for columns, cells in tables("PROMISES.md") if columns[-2:] == ["statement", "theorem"]]
+
+
+def sentences():
+    rows = list(tables("PAGE.md"))
+    if not rows:
+        yield "docs/PAGE.md has no row"
+    for columns, cells in rows:
+        if columns != SENTENCES or len(cells) != len(SENTENCES) or not all(cells):
+            yield f"docs/PAGE.md: the row {' | '.join(cells)} has not {', '.join(SENTENCES)}"
+        elif not re.search(r"`[^`]+/[^`]+`", cells[-1]):
+            yield f"docs/PAGE.md names nothing that stands behind {cells[0]}"
 
 
 def names_in(cell, folder):
@@ -193,7 +228,7 @@ def places():
 
 
 def main():
-    faults = [fault for check in (promises, statements, edits, mentions, axioms_and_holes, contracts, lengths, imports, places) for fault in check()]
+    faults = [fault for check in (citations, statements, edits, sentences, mentions, axioms_and_holes, contracts, lengths, imports, places) for fault in check()]
     for fault in faults:
         print(fault)
     print(f"tree: {len(faults)} faults in {len(sources())} source files")
