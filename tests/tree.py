@@ -6,7 +6,7 @@
   just that statement as its type, brought in from the file of specs/. Every other statement of such a file has its row too.
 - docs/PAGE.md has in each row a sentence, a definition, and what stands behind it: something that is named.
 - Every file of a crate that a document names stands in the tree.
-- No axiom and no hole stands in a crate.
+- No axiom and no hole stands in a crate. No definition and no contract brings in anything of a folder proofs/.
 - No file of a crate is over 400 lines, and none brings in a name that it does not use.
 - A public call, a `pub fn` at the root of a crate that the outside calls, has no `requires` and one `ensures`, which is a promise of
   the crate's specs/Promises.antt and nothing besides.
@@ -87,6 +87,14 @@ def axioms_and_holes():
         for number, line in enumerate(code_of(path), 1):
             if re.search(r"^\s*axiom |Prim\.Axiom|(^|[ (])\?[a-z0-9₀-₉]*([ ),]|$)|\{!", line):
                 yield f"{path.relative_to(ROOT)}:{number} has an axiom or a hole"
+
+
+def definitions_alone():
+    """What a reader must believe is in specs/ and in the contracts: nothing of proofs/ is behind them."""
+    for path in [path for path in sources() if path.suffix == ".rt" or "specs" in path.relative_to(ROOT).parts]:
+        for number, line in enumerate(code_of(path), 1):
+            if re.match(r"(?:ghost )?use Rattle·\w+(?:·proofs)?\.proofs\.", line):
+                yield f"{path.relative_to(ROOT)}:{number} brings in something of proofs/"
 
 
 def brings(path, crate, file, name):
@@ -193,6 +201,11 @@ def contracts():
             name = promise and promise[1]
             if not name or not re.search(rf"^(?:(?:abbrev|unfoldable) )*pub {name} : ", promised, re.M) or not brings(path, crate, "Promises", name):
                 yield f"{crate}::{call} ensures what is no promise of crates/{crate}/specs/Promises.antt"
+            if "(sheet-of " in head and not brings(path, "page", "Sheet", "sheet-of"):
+                yield f"{crate}::{call} speaks of another sheet than that of crates/page/specs/Sheet.antt"
+        for line in lines:
+            if re.match(r"pub use [\w:]+::[a-z_]+;", line):
+                yield f"crates/{crate}/src/lib.rt has a public call from elsewhere: {line.strip()}"
 
 
 def lengths():
@@ -228,7 +241,7 @@ def places():
 
 
 def main():
-    faults = [fault for check in (citations, statements, edits, sentences, mentions, axioms_and_holes, contracts, lengths, imports, places) for fault in check()]
+    faults = [fault for check in (citations, statements, edits, sentences, mentions, axioms_and_holes, definitions_alone, contracts, lengths, imports, places) for fault in check()]
     for fault in faults:
         print(fault)
     print(f"tree: {len(faults)} faults in {len(sources())} source files")

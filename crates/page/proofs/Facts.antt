@@ -3,15 +3,16 @@ use mathlib.Core.Path.{_≡_, refl, sym, _∙_, ap}
 use mathlib.Core.Bool.{Bool, true, false}
 use mathlib.Core.List.{List, [], _∷_, _++_, List·Memᴰ, List·Memᴰ·head, List·Memᴰ·tail, List·Memᴰ·cases-cons, List·Memᴰ·not-nil}
 use mathlib.Core.Logic.{⊎-elim}
-use Prim.Native.Nat.{ℕ, _+_, _*_, _-_, _^_}
+use Prim.Native.Nat.{ℕ, _+_, _*_, _-_, _^_, _≤_}
 use native.Mathlib.Nat as Nat
 use native.Mathlib.Omega.{arith}
 use borrow.Author.Tests.{le-ltb, leb-false, lt-leb}
 use lib.Dec.{leb}
-use lib.IntN.{ℤ, pos, _+ℤ_, _-ℤ_, _*ℤ_, pow}
-use Rattle.algebra.specs.Sum.{_⋯_}
-use Rattle.algebra.proofs.Integer.{*ℤ-idr}
-use Rattle.algebra.proofs.Power.{pow-+, *ℤ-pow}
+use lib.IntN.{ℤ, pos, _+ℤ_, _-ℤ_, _*ℤ_, natAbs, pow}
+use Rattle.algebra.specs.Sum.{sum, _⋯_}
+use Rattle.algebra.proofs.Integer.{*ℤ-idl, *ℤ-idr}
+use Rattle.algebra.proofs.Power.{pow-+, *ℤ-pow, pos-pow, one-powℕ}
+use Rattle.algebra.proofs.Order.{≤ℤ-trans}
 use Rattle.algebra.proofs.Ring.{ring, _⊕_, _⊖_, _⊗_, #_, _≐_}
 use Rattle.algebra.proofs.Sum.{sum-cong, *ℤ-sum}
 use Rattle.algebra.proofs.Run.{⋯-member}
@@ -23,28 +24,52 @@ use Rattle.forms.specs.Plane.{pair}
 use Rattle.forms.proofs.Plane.{scale-page, value-pair, sum-plane}
 use Rattle.forms.proofs.Taylor.{local-formula}
 use Rattle.page.specs.Sheet.{A}
-use Rattle.page.specs.Scaled.{half-side, value-at, f-at}
+use Rattle.page.specs.Scaled.{scaled, half-side, U0, V0, value-at, f-at}
+use Rattle.page.specs.Bounds.{lower, upper}
 use Rattle.page.specs.Weight.{weight, Accepted}
 use Rattle.page.specs.Refusals.{Row, first, refusal, to-check}
 use Rattle.page.specs.Steps.{range-refusal}
-use Rattle.page.specs.Facts.{ScalesF, AtWhole, SharedEdges, Expands, AtMost45, AcceptedByCheck, GivenBy, GivenExactly}
+use Rattle.page.specs.Facts.{ScalesF, AtWhole, SameFraction, BoundsInOrder, SharedEdges, Expands, AtMost45, AcceptedByCheck, GivenBy, GivenExactly}
 use Rattle.page.proofs.Rows.{check-rows, range-passed, range-0, outside-size, both-zero, next-row, rest}
+use Rattle.page.proofs.Demand3.{contained}
 use Rattle.page.proofs.Page.{polynomial, centre, F-is, G-is, value-is}
 
 -- ---- F and f
 pub at-whole : AtWhole
 at-whole S u v = value-is S u v 1 ∙ sym (F-is S u v)
 
+-- a factor K^(d-i-j)·K^i·K^j of each term is a factor K^d of the sum
+factor-out : (d : ℕ) (K : ℤ) (t u : ℕ → ℕ → ℤ) → ((i j : ℕ) → t i j ≡ pow K (d - i - j) *ℤ pow K i *ℤ pow K j *ℤ u i j)
+    → sum (0 ⋯ d) (λ i. sum (0 ⋯ (d - i)) (t i)) ≡ pow K d *ℤ sum (0 ⋯ d) (λ i. sum (0 ⋯ (d - i)) (u i))
+factor-out d K t u h =
+    sum-cong (0 ⋯ d) (λ i m. sum-cong (0 ⋯ (d - i)) (λ j l.
+    let x = ⋯-member 0 d m in let y = ⋯-member 0 (d - i) l in let e : d - i - j + i + j ≡ d = omega arith in
+    let whole : pow K (d - i - j) *ℤ pow K i *ℤ pow K j ≡ pow K d = sym (ap (λ z. z *ℤ pow K j) (pow-+ K (d - i - j) i)) ∙ sym (pow-+ K (d - i - j + i) j) ∙ ap (pow K) e in
+    h i j ∙ ap (λ z. z *ℤ u i j) whole))
+    ∙ sym (*ℤ-sum (pow K d) (0 ⋯ d) _ ∙ sum-cong (0 ⋯ d) (λ i m. *ℤ-sum (pow K d) (0 ⋯ (d - i)) (u i)))
+
 pub scales-F : ScalesF
 unfolding value-at f-at
 scales-F S M N Q =
     let K = pos (2 ^ (S .k + 1)) in let d = S .d in
-    sum-cong (0 ⋯ d) (λ i m. sum-cong (0 ⋯ (d - i)) (λ j l.
-    let x = ⋯-member 0 d m in let y = ⋯-member 0 (d - i) l in let e : d - i - j + i + j ≡ d = omega arith in
-    let whole : pow K (d - i - j) *ℤ pow K i *ℤ pow K j ≡ pow K d = sym (ap (λ z. z *ℤ pow K j) (pow-+ K (d - i - j) i)) ∙ sym (pow-+ K (d - i - j + i) j) ∙ ap (pow K) e in
-    rw (*ℤ-pow K M i, *ℤ-pow K N j, ← (scale-page (S .k) (d - i - j)), ← (scale-page (S .k) d), ← whole)
+    rw (← (scale-page (S .k) d)) (factor-out d K _ _ (λ i j. rw (*ℤ-pow K M i, *ℤ-pow K N j, ← (scale-page (S .k) (d - i - j)))
     (ring (A S i j ∷ pow K (d - i - j) ∷ pow K i ∷ pow K j ∷ pow M i ∷ pow N j ∷ pow (pos Q) (d - i - j) ∷ []) (λ a s t u m n q. a ⊗ s ⊗ (t ⊗ m) ⊗ (u ⊗ n) ⊗ q ≐ s ⊗ t ⊗ u ⊗ (a ⊗ m ⊗ n ⊗ q)) tt)))
-    ∙ sym (*ℤ-sum (pos (2 ^ ((S .k + 1) * d))) (0 ⋯ d) _ ∙ sum-cong (0 ⋯ d) (λ i m. *ℤ-sum (pos (2 ^ ((S .k + 1) * d))) (0 ⋯ (d - i)) _))
+
+pub same-fraction : SameFraction
+unfolding value-at
+same-fraction S M N Q c =
+    let K = pos c in let d = S .d in
+    rw (← (pos-pow c d)) (factor-out d K _ _ (λ i j. rw (*ℤ-pow K M i, *ℤ-pow K N j, *ℤ-pow K (pos Q) (d - i - j))
+    (ring (scaled S i j ∷ pow K (d - i - j) ∷ pow K i ∷ pow K j ∷ pow M i ∷ pow N j ∷ pow (pos Q) (d - i - j) ∷ []) (λ a s t u m n q. a ⊗ (t ⊗ m) ⊗ (u ⊗ n) ⊗ (s ⊗ q) ≐ s ⊗ t ⊗ u ⊗ (a ⊗ m ⊗ n ⊗ q)) tt)))
+
+-- ---- bounds: the centre of the cell lies between them
+pub bounds-in-order : BoundsInOrder
+bounds-in-order S mode j p q =
+    let b = rw (one-powℕ (S .d), *ℤ-idl (lower S mode j p q), *ℤ-idl (upper S mode j p q)) at (contained S mode j p q (U0 S j p) (V0 S j q) 1 (record { across = here (U0 S j p); along = here (V0 S j q) })) in
+    ≤ℤ-trans (b .0) (b .1)
+  where
+    here : (u : ℤ) → natAbs (u -ℤ pos 1 *ℤ u) ≤ 1 * half-side S j
+    here u = rw (ring (u ∷ []) (λ u. u ⊖ # 1 ⊗ u ≐ # 0) tt) (omega arith)
 
 -- ---- cells
 pub shared-edges : SharedEdges

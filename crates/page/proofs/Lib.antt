@@ -6,6 +6,7 @@ pub mod Cells
 pub mod Page
 pub mod Demand3
 pub mod Raster
+pub mod Cover
 pub mod Facts
 pub mod ReadFacts
 pub mod Edges

@@ -5,10 +5,13 @@ use mathlib.Core.List.{List, _∷_, _++_, List·Memᴰ}
 use mathlib.Core.Logic.{_↔_}
 use Prim.Native.Nat.{ℕ, _+_, _*_, _-_, _^_, _≤_}
 use lib.IntN.{ℤ, pos, _+ℤ_, _-ℤ_, _*ℤ_, pow}
+use lib.Signed.{_≤ℤ_}
 use Rattle.algebra.specs.Sum.{sum, _⋯_}
+use Rattle.forms.specs.Bounds.{Mode}
 use Rattle.page.specs.Sheet.{Sheet, count, A, InRange}
 use Rattle.page.specs.Scaled.{F, half-side, U0, V0, InCell, value-at, f-at}
 use Rattle.page.specs.LocalForm.{G}
+use Rattle.page.specs.Bounds.{lower, upper}
 use Rattle.page.specs.Weight.{Accepted}
 use Rattle.page.specs.Refusals.{misplaced, point, Row, first, refusal, to-check}
 
@@ -18,6 +21,14 @@ ScalesF = (S : Sheet) (M N : ℤ) (Q : ℕ) → value-at S (pos (2 ^ (S .k + 1))
 
 abbrev pub AtWhole : Type 0
 AtWhole = (S : Sheet) (u v : ℤ) → value-at S u v 1 ≡ F S u v
+
+-- the value times Q^d goes by the point alone: M/Q and N/Q written with c times as much above and below give c^d times as much
+abbrev pub SameFraction : Type 0
+SameFraction = (S : Sheet) (M N : ℤ) (Q c : ℕ) → value-at S (pos c *ℤ M) (pos c *ℤ N) (c * Q) ≡ pos (c ^ S .d) *ℤ value-at S M N Q
+
+-- the lower bound of a cell is at most the upper one: no cell is above and below at once
+abbrev pub BoundsInOrder : Type 0
+BoundsInOrder = (S : Sheet) (mode : Mode) (j p q : ℕ) → lower S mode j p q ≤ℤ upper S mode j p q
 
 -- neighbours share their edges
 abbrev pub SharedEdges : Type 0

@@ -13,4 +13,5 @@ pub mod Facts
 pub mod ReadFacts
 pub mod Demand3
 pub mod Raster
+pub mod Cover
 pub mod Steps

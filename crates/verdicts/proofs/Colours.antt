@@ -6,7 +6,7 @@ use native.Mathlib.Nat as Nat
 use native.Mathlib.Numerals.{add-one}
 use native.Mathlib.Omega.{arith}
 use lib.Dec.{lit≤}
-use Rattle.algebra.specs.Sum.{run}
+use Rattle.algebra.specs.Sum.{run, _⋯_}
 use Rattle.algebra.proofs.Run.{⋯-run}
 use Rattle.verdicts.specs.declared.Verdict.{Verdict}
 use Rattle.verdicts.specs.declared.Verdict.the-variants.{Above, Below, Open}
@@ -42,9 +42,19 @@ pub colour-is : (v : Verdicts) (k x y : ℕ) → colour-from v 0 k x y ≡ colou
 unfolding colour
 colour-is v k x y = colour-down v k 0 k x y (Nat.zero-add k) ∙ ap (λ ls. colour-of (map (enclosing v k x y) ls)) (sym (⋯-run k))
 
--- ---- a colour is at most 3
+-- ---- a colour is 1, 2 or 3
 pub colour-of-small : (ws : List Verdict) → colour-of ws ≤ 3
 colour-of-small [] = lit≤ tt
 colour-of-small (Above l u ∷ ws) = lit≤ tt
 colour-of-small (Below l u ∷ ws) = lit≤ tt
 colour-of-small (Open l u ∷ ws) = colour-of-small ws
+
+colour-of-some : (ws : List Verdict) → 1 ≤ colour-of ws
+colour-of-some [] = lit≤ tt
+colour-of-some (Above l u ∷ ws) = lit≤ tt
+colour-of-some (Below l u ∷ ws) = lit≤ tt
+colour-of-some (Open l u ∷ ws) = colour-of-some ws
+
+pub colour-one-of : (v : Verdicts) (k p q : ℕ) → (1 ≤ colour v k p q) × (colour v k p q ≤ 3)
+unfolding colour
+colour-one-of v k p q = let vs = map (enclosing v k p q) (0 ⋯ k) in (colour-of-some vs, colour-of-small vs)
