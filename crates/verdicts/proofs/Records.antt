@@ -13,7 +13,7 @@ use Rattle.algebra.specs.Sum.{span}
 use Rattle.algebra.proofs.Choice.{cond-ap, cond-when, and-left, and-right}
 use Rattle.algebra.proofs.Run.{span-member}
 use Rattle.verdicts.specs.Walking.{Verdicts, in-turn, those, record-of, raster}
-use Rattle.verdicts.specs.Facts.{covers, unfolded-at, unfolded, OneRecordEach, SameStory}
+use Rattle.verdicts.specs.Facts.{level-in, column-in, row-in, covers, unfolded-at, unfolded, OneRecordEach, SameStory}
 use Rattle.verdicts.specs.Operational.{records-from, colour-from}
 use Rattle.verdicts.proofs.Cells.{walk-induction, records-cleared, records-last, records-open, colour-cleared, colour-last, colour-open}
 use Rattle.verdicts.proofs.Colours.{colour-is, colour-of-small}
@@ -37,9 +37,9 @@ joined c u a v b (neither x y z) (neither r s t) = simp (x, y, z, r, s, t)
 
 -- ---- one record tells its cell and its colour
 pub record Told (r c level a b : ℕ) : Type 0 where
-  pub depth : r / 65_536 ≡ level
-  pub across : r / 4 % 128 ≡ a
-  pub up : r / 512 % 128 ≡ b
+  pub depth : level-in r ≡ level
+  pub across : column-in r ≡ a
+  pub up : row-in r ≡ b
   pub painted : r % 4 ≡ c
 
 pub told : (c level a b : ℕ) → c ≤ 3 → a < 128 → b < 128 → Told (record-of c level a b) c level a b

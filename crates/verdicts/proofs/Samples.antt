@@ -3,7 +3,7 @@ use mathlib.Core.Path.{_≡_, refl}
 use mathlib.Core.Bool.{cond}
 use mathlib.Core.List.{[], _∷_, flatMap}
 use lib.Dec.{eqb, ltb}
-use lib.IntN.{pos}
+use lib.IntN.{pos, negsuc}
 use lib.ListN.{getD}
 use Rattle.algebra.specs.Sum.{sumℕ, run, span, _⋯_}
 use Rattle.verdicts.specs.declared.Verdict.the-variants.{Above, Below, Open}
@@ -12,7 +12,7 @@ use Rattle.verdicts.specs.Facts.{unfolded}
 
 -- above right of the diagonal from level 1 on, below left of it, open on it
 abbrev diagonal : Verdicts
-diagonal j p q = cond (ltb q p) (Above (pos 1) (pos 2)) (cond (ltb p q) (Below (pos 1) (pos 2)) (Open (pos 0) (pos 0)))
+diagonal j p q = cond (ltb q p) (Above (pos 1) (pos 2)) (cond (ltb p q) (Below (negsuc 1) (negsuc 0)) (Open (pos 0) (pos 0)))
 
 -- the first cell is above though its parts are open, as on P1 and P2
 abbrev whole : Verdicts

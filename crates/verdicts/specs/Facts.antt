@@ -20,13 +20,26 @@ abbrev pub VisitedBetween : Type 0
 VisitedBetween = (v : Verdicts) (k : ℕ) → (1 ≤ visited v k) × (visited v k ≤ (4 ^ (k + 1) - 1) / 3)
 
 -- ---- the records tell what the raster tells
--- the cell of a record covers the finest cell at column p, row q: level is r/65,536, column r/4 mod 128, row r/512 mod 128
+-- the colour, level, column and row that a record r holds
+abbrev pub colour-in : ℕ → ℕ
+colour-in r = r % 4
+
+abbrev pub level-in : ℕ → ℕ
+level-in r = r / 65_536
+
+abbrev pub column-in : ℕ → ℕ
+column-in r = r / 4 % 128
+
+abbrev pub row-in : ℕ → ℕ
+row-in r = r / 512 % 128
+
+-- its cell covers the finest cell at column p, row q
 abbrev pub covers : ℕ → ℕ → ℕ → ℕ → Bool
-covers k p q r = eqb (p / 2 ^ (k - r / 65_536)) (r / 4 % 128) && eqb (q / 2 ^ (k - r / 65_536)) (r / 512 % 128)
+covers k p q r = eqb (p / 2 ^ (k - level-in r)) (column-in r) && eqb (q / 2 ^ (k - level-in r)) (row-in r)
 
 -- the colours of the records that cover it
 abbrev pub unfolded-at : ℕ → List ℕ → ℕ → ℕ → List ℕ
-unfolded-at k records p q = map (λ r. r % 4) (those (covers k p q) records)
+unfolded-at k records p q = map colour-in (those (covers k p q) records)
 
 -- each finest cell is covered by one record, and that has its colour
 abbrev pub OneRecordEach : Type 0
@@ -52,7 +65,7 @@ ListingLong = (v : Verdicts) (k : ℕ) → (length (listing v k) + cells-cut v k
 
 -- coloured is the number of the raster's bytes that are 1, and of the listing's records whose colour is 1
 abbrev pub ColouredCounted : Type 0
-ColouredCounted = (v : Verdicts) (k : ℕ) → (coloured v k ≡ length (those (λ b. eqb b 1) (raster v k))) × (coloured v k ≡ length (those (λ r. eqb (r % 4) 1) (listing v k)))
+ColouredCounted = (v : Verdicts) (k : ℕ) → (coloured v k ≡ length (those (λ b. eqb b 1) (raster v k))) × (coloured v k ≡ length (those (λ r. eqb (colour-in r) 1) (listing v k)))
 
 -- ---- why a finest cell has its colour
 -- a cell covers the finest cell at column p, row q, that is encloses it or is that cell itself; it is visited, and its verdict is of this kind

@@ -1,13 +1,14 @@
 -- What the contracts say of the bytes that are written. None of it is the page's.
 use mathlib.Core.List.{List, flatMap}
-use Prim.Native.Nat.{ℕ, _/_, _%_, _≤_}
+use Prim.Native.Nat.{ℕ, _≤_}
 use lib.ListN.{length}
 use Rattle.algebra.specs.Written.{Written}
+use Rattle.verdicts.specs.Facts.{colour-in, level-in, column-in, row-in}
 use Rattle.page.specs.ListingText.{record-line}
 
--- the line of a record: level is r/65,536, column r/4 mod 128, row r/512 mod 128, colour r mod 4
+-- the line of a record
 abbrev pub record-text : ℕ → List ℕ
-record-text r = record-line (r % 4) (r / 65_536) (r / 4 % 128) (r / 512 % 128)
+record-text r = record-line (colour-in r) (level-in r) (column-in r) (row-in r)
 
 -- the lines of records, one after the other
 unfoldable pub records-text : List ℕ → List ℕ
