@@ -25,6 +25,7 @@ import sys
 
 sys.dont_write_bytecode = True  # nothing is left in the tree
 import second
+import second_walk
 from cases import CALLS, COUNT, ENTRIES, REFUSALS, WALKS, all_cases, filled
 from program import BUILT, code, number, written_by
 
@@ -178,7 +179,7 @@ def met(call, args, answered):
         yield from ((call, "depth", k, "mode", rest[0], "colour", colour) for colour in set(values[-1][:4 ** k]))
     if call == "listing":
         records = values[-1][:values[0]]
-        seen = {(second.cell_of(record)[0], record % 4) for record in records}
+        seen = {(second_walk.cell_of(record)[0], record % 4) for record in records}
         yield from ((call, "mode", rest[0], "level", j, "colour", colour) for j, colour in seen)
         if k <= 4:
             yield from ((call, "an open part within a cell cleared at level", j) for j in hiding(args, records))
@@ -187,9 +188,9 @@ def met(call, args, answered):
 def hiding(args, records):
     """The levels of the cleared cells, two or more above the finest, a part of which is open by its own bounds."""
     *sheet, k, mode, _ = args
-    cleared = [second.cell_of(record) for record in records if record % 4 != 1]
+    cleared = [second_walk.cell_of(record) for record in records if record % 4 != 1]
     return {at[0] for at in cleared if at[0] + 2 <= k
-            and any(second.bounds(*sheet, k, mode, *part)[1] == "open" for part in second.parts(*at))}
+            and any(second.bounds(*sheet, k, mode, *part)[1] == "open" for part in second_walk.parts(*at))}
 
 
 def met_of_place(call, k, mode, entries, refusal):
@@ -247,7 +248,7 @@ def tallies(cases, answers):
     """The page's tallies that a walk by the proved program's verdicts does not count."""
     told = {shown(*case): answered for case, answered in zip(cases, answers)}
     for name, sheet, mode, counted in second.TALLIES:
-        found = second.tally(lambda j, p, q: told.get(shown("bounds", sheet + (mode, j, p, q)), (0, None))[1], sheet[-1])
+        found = second_walk.tally(lambda j, p, q: told.get(shown("bounds", sheet + (mode, j, p, q)), (0, None))[1], sheet[-1])
         if found != counted:
             yield f"{name}: a walk in mode {mode} counts {found}, and the page says {counted}"
 
@@ -259,9 +260,9 @@ def pair_fault(k, raster, listing):
     _, *tally, place = raster
     _, length, *listed, entries = listing
     records = entries[:length]
-    if second.unfolded(records, k) != place[:4 ** k]:
+    if second_walk.unfolded(records, k) != place[:4 ** k]:
         return "the listing does not unfold to the raster"
-    cut = {larger for record in records for larger in second.enclosing(*second.cell_of(record))}
+    cut = {larger for record in records for larger in second_walk.enclosing(*second_walk.cell_of(record))}
     counted = [1 + 4 * len(cut), sum(record % 4 == 1 for record in records)]
     if tally != counted or listed != counted:
         return f"the tallies are {tally} and {listed}, and the records count {counted}"

@@ -3,9 +3,7 @@
 Plain exact whole numbers, in the page's order and by the page's formulas, with no thought for the size of a number and little for
 speed. It shares nothing with the proved crates, so that where the two agree neither leans on the other.
 
-Of a walk, the answers come from the page's definition at every depth: the cells of all levels are listed in walking order, and those all of
-whose larger enclosing cells are open are the visited ones. The quick way, to cut open cells and go on with their parts, is `stepped`. No answer
-comes from it: `walk_fault` compares the two.
+The bounds of a cell give the verdict on it, and tests/second_walk.py has what the page says of a walk by verdicts.
 
 An answer begins with a number: 0 where the sheet is accepted, else the number of the refusal with zeros beside it. Where a place is lent,
 the answer ends with all of the place's entries as they are afterwards.
@@ -15,6 +13,9 @@ the answer ends with all of the place's entries as they are afterwards.
 import functools
 import sys
 from math import comb
+
+sys.dont_write_bytecode = True  # nothing is left in the tree
+from second_walk import fault_of, listing_of, raster_of, tally, tally_of, visited_cells
 
 COORDINATE = 1_048_576
 LIMIT = 2 ** 62
@@ -91,107 +92,6 @@ def verdict_of(lower, upper):
 
 # ---- walking the sheet
 
-COLOURS = {"open": 1, "above": 2, "below": 3}
-
-
-def parts(j, p, q):
-    """The four cells that a cell is cut into: lower left, lower right, upper left, upper right."""
-    return [(j + 1, x, y) for y in (2 * q, 2 * q + 1) for x in (2 * p, 2 * p + 1)]
-
-
-@functools.cache
-def enclosing(j, p, q):
-    """The larger cells that enclose a cell, from level 0 on."""
-    return tuple((level, p >> (j - level), q >> (j - level)) for level in range(j))
-
-
-def walking_order(j, p, q):
-    """The quarter that is taken at each level from 0 on: 0 lower left, 1 lower right, 2 upper left, 3 upper right.
-
-    Of two cells the one with the smaller sequence comes first, and a cell comes before its parts.
-    """
-    return tuple(2 * (q >> left & 1) + (p >> left & 1) for left in reversed(range(j)))
-
-
-@functools.cache
-def every_cell(k):
-    """The cells of all levels, in walking order."""
-    cells = [(j, p, q) for j in range(k + 1) for q in range(2 ** j) for p in range(2 ** j)]
-    return sorted(cells, key=lambda at: walking_order(*at))
-
-
-def visited_cells(verdict, k):
-    """The definition: of all cells those all of whose larger enclosing cells are open, with their verdicts, in walking order.
-
-    The verdict on a cell is a function of its level, column and row. It is asked at most once of each cell.
-    """
-    verdict = functools.cache(verdict)
-    return {at: verdict(*at) for at in every_cell(k) if all(verdict(*larger) == "open" for larger in enclosing(*at))}
-
-
-def stepped(found, k, at=(0, 0, 0)):
-    """The quick way: the cells that one comes to by cutting open cells above the finest level, in that order, by the verdicts found."""
-    yield at
-    if found.get(at) == "open" and at[0] < k:
-        for part in parts(*at):
-            yield from stepped(found, k, part)
-
-
-def cut_cells(found, k):
-    """The visited cells that are cut: the open ones above the finest level."""
-    return [at for at, verdict in found.items() if verdict == "open" and at[0] < k]
-
-
-def tally_of(found, k):
-    """Visited and coloured."""
-    return len(found), sum(verdict == "open" for at, verdict in found.items() if at[0] == k)
-
-
-def raster_of(found, k):
-    """The bytes of the finest cells, row after row from the bottom. The parts of a cell that is cleared are covered by it."""
-    covering = {(0, 0): found[0, 0, 0]}
-    for j in range(1, k + 1):
-        larger, covering = covering, {}
-        for q in range(2 ** j):
-            for p in range(2 ** j):
-                over = larger[p // 2, q // 2]
-                covering[p, q] = found[j, p, q] if over == "open" else over
-    return [COLOURS[covering[p, q]] for q in range(2 ** k) for p in range(2 ** k)]
-
-
-def listing_of(found, k):
-    """The records of the visited cells, in walking order, without those that are cut."""
-    return [COLOURS[verdict] + 4 * p + 512 * q + 65536 * j for (j, p, q), verdict in found.items() if verdict != "open" or j == k]
-
-
-def cell_of(record):
-    """The level, column and row in a record."""
-    return record // 65536, record // 4 % 128, record // 512 % 128
-
-
-def unfolded(records, k):
-    """The raster that a listing tells: each record's colour at each finest cell of its cell, and None where no record tells of one.
-
-    There is none where a record is of no cell of the sheet, or where two tell of one finest cell.
-    """
-    told = [None] * 4 ** k
-    for record in records:
-        j, p, q = cell_of(record)
-        if j > k or p >= 2 ** j or q >= 2 ** j:
-            return None
-        side = 2 ** (k - j)
-        for row in range(q * side, (q + 1) * side):
-            run = slice(row * 2 ** k + p * side, row * 2 ** k + (p + 1) * side)
-            if told[run] != [None] * side:
-                return None
-            told[run] = [record % 4] * side
-    return told
-
-
-def tally(verdict, k):
-    return tally_of(visited_cells(verdict, k), k)
-
-
 @functools.lru_cache(maxsize=8)
 def walked(d, coefficients, X, Y, s, k, mode):
     """The visited cells of an accepted sheet: each cell's bounds are worked out once, for raster and listing both."""
@@ -202,18 +102,7 @@ def walked(d, coefficients, X, Y, s, k, mode):
 
 def walk_fault(d, coefficients, X, Y, s, k, mode):
     """What the page says of every walk and this one does not keep, or nothing."""
-    found = walked(d, tuple(coefficients), X, Y, s, k, mode)
-    if list(stepped(found, k)) != list(found):
-        return "cutting open cells comes to other cells than the definition names, or in another order"
-    visited, cut = len(found), len(cut_cells(found, k))
-    if visited != 1 + 4 * cut or not 1 <= visited <= (4 ** (k + 1) - 1) // 3:
-        return f"{visited} cells are visited, and {cut} are cut"
-    records = listing_of(found, k)
-    if len(records) != visited - cut:
-        return f"{visited} cells are visited, {cut} are cut, and {len(records)} are listed"
-    if unfolded(records, k) != raster_of(found, k):
-        return "the listing does not unfold to the raster"
-    return None
+    return fault_of(walked(d, tuple(coefficients), X, Y, s, k, mode), k)
 
 
 # ---- weight
