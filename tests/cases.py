@@ -191,10 +191,8 @@ def spoiled(rng, call, g, number):
     return g._replace(**{name: beyond(rng, min(sheet.k, MOST32 - 1) if name == "j" else 2 ** g.j - 1)})
 
 
-def random_case(rng, turn):
-    """The calls, degrees and depths take turns; most cases are of accepted sheets, the others are spoiled in one way or in several."""
-    turn, at = divmod(turn, len(SINGLE))
-    call, d, k = SINGLE[at], turn % 9, turn // 9 % 8
+def random_case(rng, call, d, k):
+    """Most cases are of accepted sheets, the others are spoiled in one way or in several."""
     g = given(rng, heavy(rng, 2 ** 62 - 1) if rng.random() < 0.04 else accepted(rng, d, k))
     fate = rng.random()
     for number in rng.sample(REFUSALS[call], 1 if fate < 0.25 else rng.randint(2, 3) if fate < 0.35 else 0):
@@ -202,9 +200,8 @@ def random_case(rng, turn):
     return call, arguments(call, g)
 
 
-def random_walks(rng, turn):
-    """A raster and a listing of one sheet in one mode, spoiled or not, each with a place of its own; degrees and depths take turns."""
-    d, k = turn % 9, DEPTHS[turn // 9 % len(DEPTHS)]
+def random_walks(rng, d, k):
+    """A raster and a listing of one sheet in one mode, spoiled or not, each with a place of its own."""
     sheet = heavy(rng, 2 ** 62 - 1, (k,)) if rng.random() < 0.04 else accepted(rng, d, k)
     g, fate = given(rng, near(rng, sheet) if rng.random() < 0.85 else sheet), rng.random()
     for number in rng.sample(SHARED, 1 if fate < 0.2 else rng.randint(2, 3) if fate < 0.3 else 0):
@@ -212,6 +209,19 @@ def random_walks(rng, turn):
     for call in WALKS:
         h = g._replace(entries=enough(rng, k))
         yield call, arguments(call, spoiled(rng, call, h, 7) if rng.random() < 0.15 else h)
+
+
+def random_cases(rng, count):
+    """So many random cases: the calls, degrees and depths take turns."""
+    for turn in range(count):
+        turn, at = divmod(turn, len(SINGLE))
+        yield random_case(rng, SINGLE[at], turn % 9, turn // 9 % 8)
+
+
+def random_pairs(rng, count):
+    """So many sheets, each walked by both calls: degrees and depths take turns."""
+    for turn in range(count):
+        yield from random_walks(rng, turn % 9, DEPTHS[turn // 9 % len(DEPTHS)])
 
 
 # ---- all of them
@@ -279,5 +289,5 @@ def all_cases(seed, count):
     """The figures and the cells of the sheets with printed tallies, the limits, places of every kind, walks that hide an open cell, so many
     random cases, and a third as many walks."""
     rng = random.Random(seed)
-    cases = [*figures(), *tallied_cells(), *at_limits(rng), *lent(rng), *hidden(rng)] + [random_case(rng, turn) for turn in range(count)]
-    return cases + [case for turn in range(count // 6) for case in random_walks(rng, turn)]
+    cases = [*figures(), *tallied_cells(), *at_limits(rng), *lent(rng), *hidden(rng)]
+    return cases + [*random_cases(rng, count), *random_pairs(rng, count // 6)]

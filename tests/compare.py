@@ -143,11 +143,15 @@ def brief(answered, other):
 
 
 def disagreements(cases, answers, expected):
-    wrong = [row for row in zip(cases, answers, expected) if row[1] != row[2]]
-    for case, got, wanted in wrong[:SHOWN]:
-        print(f"disagreement on --case '{shown(*case)}'")
-        print(f"    the proved program: {brief(got, wanted)}\n    the second program: {brief(wanted, got)}")
-    return len(wrong)
+    """What is to be said of each case that the two programs answer otherwise."""
+    return [f"disagreement on --case '{shown(*case)}'\n"
+            f"    the proved program: {brief(got, wanted)}\n    the second program: {brief(wanted, got)}"
+            for case, got, wanted in zip(cases, answers, expected) if got != wanted]
+
+
+def faults_of_walks(faults):
+    """The same for the walks of the second program that are not as the page says."""
+    return [f"the second program's walk is wrong on --case '{shown(*case)}': {fault}" for case, fault in faults]
 
 
 def met(call, args, answered):
@@ -332,10 +336,10 @@ def main():
     if any(entries_of(*case) > ENTRIES for case in cases):
         sys.exit(f"compare: a place has at most {ENTRIES} entries")
     expected, faults, walks = second_answers(cases)
-    for case, fault in faults[:SHOWN]:
-        print(f"the second program's walk is wrong on --case '{shown(*case)}': {fault}")
     answers = run(chosen.program, cases)
     wrong = disagreements(cases, answers, expected)
+    for line in faults_of_walks(faults)[:SHOWN] + wrong[:SHOWN]:
+        print(line)
     cells = [(args, answered) for (call, args), answered in zip(cases, expected) if call == "bounds" and answered[0] == 0]
     rng = random.Random(chosen.seed)
     broken = [(args, fault) for args, answered in cells if (fault := demand_3(rng, args, answered))]
@@ -357,7 +361,7 @@ def main():
         miscounted = list(tallies(cases, answers))
         for fault in miscounted:
             print(fault)
-    print(f"compare: seed {chosen.seed}, {len(cases) - wrong} of {len(cases)} answers agree, "
+    print(f"compare: seed {chosen.seed}, {len(cases) - len(wrong)} of {len(cases)} answers agree, "
           f"demand 3 holds on {len(cells) - len(broken)} of {len(cells)} cells, {walks - len(faults)} of {walks} walks are as the page says, "
           f"the proved listing unfolds to the proved raster on {len(paired) - len(unlike)} of {len(paired)}")
     return 1 if wrong or broken or faults or unlike or missing or miscounted else 0

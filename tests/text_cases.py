@@ -112,14 +112,16 @@ def ends(rng):
 
 # ---- refused by 1, 3, 4, 5, 6
 
+def out_of_range(rng, name, value):
+    """One number beyond its range, in a text that is good otherwise."""
+    at, field, number, _ = RANGES[name]
+    rows = good(rng)
+    rows[at][field] = b"%d" % value
+    return Case(f"{name} beyond its range", text_of(rows), number, 0)
+
+
 def ranged(rng):
-    """One number beyond its range, in texts that are good otherwise."""
-    for name, (at, field, number, values) in RANGES.items():
-        for value in values:
-            for _ in range(3):
-                rows = good(rng)
-                rows[at][field] = b"%d" % value
-                yield Case(f"{name} beyond its range", text_of(rows), number, 0)
+    return (out_of_range(rng, name, value) for name, (*_, values) in RANGES.items() for value in values for _ in range(3))
 
 
 def several(rng):
@@ -136,11 +138,18 @@ def several(rng):
     return Case("several beyond their ranges", text_of(rows), min(RANGES[name][2] for name in names), 0)
 
 
+def at_the_limit(rng):
+    return Case("weight at the limit", text_of(rows_of(rng, heavy(rng, 2 ** 62), rng.randint(0, 1))), 6, 0)
+
+
+def below_the_limit(rng, depths=(0, 1, 2)):
+    return Case("weight just below the limit", text_of(rows_of(rng, heavy(rng, 2 ** 62 - 1, depths), rng.randint(0, 1))), 0, 0)
+
+
 def weighed(rng, count):
     """Weights at the limit, just below it, and far beyond it."""
     for _ in range(count):
-        yield Case("weight at the limit", text_of(rows_of(rng, heavy(rng, 2 ** 62), rng.randint(0, 1))), 6, 0)
-        yield Case("weight just below the limit", text_of(rows_of(rng, heavy(rng, 2 ** 62 - 1, (0, 1, 2)), rng.randint(0, 1))), 0, 0)
+        yield from (at_the_limit(rng), below_the_limit(rng))
     for e in second.exponents(8):
         sheet = Sheet(8, second.terms(8, {e: rng.choice((-1, 1, LEAST31))}), 0, 0, 0, 7)
         yield Case("degree 8 and depth 7", text_of(rows_of(rng, sheet, rng.randint(0, 1))), 6, 0)
@@ -157,17 +166,26 @@ def bases(rng):
     yield small(rng)
 
 
+def anywhere(rng, rows):
+    """A line of a text, and the place of a number in it."""
+    at = rng.randrange(len(rows))
+    return at, rng.randrange(1, len(rows[at]))
+
+
+def bad_number(rows, at, field, bad):
+    """A text with a field that is no good number there; none where a negative number is good."""
+    if bad not in NEGATIVE or (rows[at][0], field) not in ((b"B", 1), (b"B", 2), (b"T", 3)):
+        line = [*rows[at][:field], bad, *rows[at][field + 1:]]
+        yield Case("a number badly written, too large or negative", text_of([*rows[:at], line, *rows[at + 1:]]), 10, at + 1)
+
+
 def fields(rng):
     """Every number of the whole case, and one of another text, in every bad writing."""
     whole, other = bases(rng)
     everywhere = [(whole, at, field) for at, line in enumerate(whole) for field in range(1, len(line))]
     for bad in NOT_WRITTEN + TOO_LARGE + NEGATIVE:
-        chosen = rng.randrange(len(other))
-        for rows, at, field in everywhere + [(other, chosen, rng.randrange(1, len(other[chosen])))]:
-            if bad in NEGATIVE and (rows[at][0], field) in ((b"B", 1), (b"B", 2), (b"T", 3)):
-                continue
-            line = [*rows[at][:field], bad, *rows[at][field + 1:]]
-            yield Case("a number badly written, too large or negative", text_of([*rows[:at], line, *rows[at + 1:]]), 10, at + 1)
+        for place in everywhere + [(other, *anywhere(rng, other))]:
+            yield from bad_number(*place, bad)
 
 
 def shapes(line):
@@ -185,59 +203,72 @@ def shapes(line):
     yield "a line of another form", line[:1] + [b"0"] * (5 - len(line))
 
 
+def reshaped(rows, at):
+    """One line of another shape."""
+    for kind, other in shapes(rows[at]):
+        if other != rows[at]:
+            yield Case(kind, text_of([*rows[:at], other, *rows[at + 1:]]), 10, at + 1)
+
+
 def shaped(rng):
-    for rows in bases(rng):
-        for at, line in enumerate(rows):
-            for kind, other in shapes(line):
-                if other != line:
-                    yield Case(kind, text_of([*rows[:at], other, *rows[at + 1:]]), 10, at + 1)
+    return (case for rows in bases(rng) for at in range(len(rows)) for case in reshaped(rows, at))
+
+
+def cut(text, length):
+    """A good text cut off: it is good still where four whole lines are left, and ends in a line that is missing or unended otherwise."""
+    left = text[:length]
+    count, ended = left.count(b"\n"), left[-1:] in (b"", b"\n")
+    return Case("lines missing" if ended else "unended", left, *((0, 0) if ended and count >= 4 else (10, count + 1)))
 
 
 def cuts(text):
-    """A text cut at any byte: it is good still where four whole lines are left, and ends in a line that is missing or unended otherwise."""
-    for length in range(len(text)):
-        left = text[:length]
-        count, ended = left.count(b"\n"), left[-1:] in (b"", b"\n")
-        kind = "lines missing" if ended else "unended"
-        yield Case(kind, left, *((0, 0) if ended and count >= 4 else (10, count + 1)))
+    """A text cut at any byte."""
+    return (cut(text, length) for length in range(len(text)))
+
+
+def moves(rows):
+    """Lines left out, doubled, exchanged, and an empty line between others."""
+    for at, line in enumerate(rows):
+        yield Case("a line left out", text_of(rows[:at] + rows[at + 1:]), *((10, at + 1) if at < 4 else (0, 0)))
+        yield Case("a line twice", text_of(rows[:at + 1] + rows[at:]), 10, at + 2)
+        yield Case("a line twice", text_of(rows + [line]), 10, len(rows) + 1)
+        yield Case("an empty line", text_of(rows[:at] + [[b""]] + rows[at:]), 10, at + 1)
+        for after in range(at + 1, min(len(rows), 8)):
+            order = list(rows)
+            order[at], order[after] = order[after], order[at]
+            yield Case("two lines exchanged", text_of(order), *((10, at + 1) if at < 4 else (0, 0)))
+    yield Case("an empty line", text_of(rows) + b"\n", 10, len(rows) + 1)
+    yield Case("a byte after the end", text_of(rows) + b"\0", 10, len(rows) + 1)
 
 
 def moved(rng):
-    """Lines left out, doubled, exchanged, and an empty line between others."""
-    for rows in (*bases(rng), good(rng), good(rng)):
-        for at, line in enumerate(rows):
-            yield Case("a line left out", text_of(rows[:at] + rows[at + 1:]), *((10, at + 1) if at < 4 else (0, 0)))
-            yield Case("a line twice", text_of(rows[:at + 1] + rows[at:]), 10, at + 2)
-            yield Case("a line twice", text_of(rows + [line]), 10, len(rows) + 1)
-            yield Case("an empty line", text_of(rows[:at] + [[b""]] + rows[at:]), 10, at + 1)
-            for after in range(at + 1, min(len(rows), 8)):
-                order = list(rows)
-                order[at], order[after] = order[after], order[at]
-                yield Case("two lines exchanged", text_of(order), *((10, at + 1) if at < 4 else (0, 0)))
-        yield Case("an empty line", text_of(rows) + b"\n", 10, len(rows) + 1)
-        yield Case("a byte after the end", text_of(rows) + b"\0", 10, len(rows) + 1)
+    return (case for rows in (*bases(rng), good(rng), good(rng)) for case in moves(rows))
+
+
+def terms_of(rng, d):
+    """Terms twice, and beyond the degree or beyond 8, for one declared degree."""
+    head = [row("D", d), *(line.split(b"\t") for line in written(*START[1:]).split(b"\n")[:-1])]
+    reach = [(i, j) for i in range(9) for j in range(9) if i + j <= d]
+    rng.shuffle(reach)
+    whole = head + [row("T", i, j, rng.choice((0, 0, 1, -7))) for i, j in reach]
+    yield Case("every term of a degree", text_of(whole), 1 if d > 8 else 0, 0)
+    for at in range(len(whole)) if d in (8, 16) else ():
+        yield Case("a bad line among many", text_of([*whole[:at], [*whole[at], b"0"], *whole[at + 1:]]), 10, at + 1)
+    for i, j in reach if d in (4, 8, 16) else rng.sample(reach, min(5, len(reach))):
+        A = rng.choice((0, 0, 1, -7))
+        yield Case("a term twice", text_of(whole + [row("T", i, j, A)]), 10, len(whole) + 1)
+        first = rng.randrange(5, len(whole) + 1)
+        yield Case("a term twice", text_of([*whole[:first], row("T", *map(int, whole[first - 1][1:3]), A), *whole[first:]]), 10, first + 1)
+    outside = {(d + 1 - i, i) for i in range(10) if d < 20} | {(9, 0), (0, 9), (9, 9), (8, 9), (256, 0), (0, MOST31), (MOST31, MOST31), (MOST31, 1)}
+    for i, j in sorted(outside - set(reach)):
+        at = rng.randrange(4, len(whole) + 1)
+        if min(i, j) >= 0:
+            yield Case("a term beyond", text_of([*whole[:at], row("T", i, j, rng.choice((0, 1))), *whole[at:]]), 10, at + 1)
 
 
 def terms(rng):
-    """Terms twice, and beyond the degree or beyond 8, for declared degrees up to the largest."""
-    for d in (*range(10), 15, 16, 17, 20, MOST31):
-        head = [row("D", d), *(line.split(b"\t") for line in written(*START[1:]).split(b"\n")[:-1])]
-        reach = [(i, j) for i in range(9) for j in range(9) if i + j <= d]
-        rng.shuffle(reach)
-        whole = head + [row("T", i, j, rng.choice((0, 0, 1, -7))) for i, j in reach]
-        yield Case("every term of a degree", text_of(whole), 1 if d > 8 else 0, 0)
-        for at in range(len(whole)) if d in (8, 16) else ():
-            yield Case("a bad line among many", text_of([*whole[:at], [*whole[at], b"0"], *whole[at + 1:]]), 10, at + 1)
-        for i, j in reach if d in (4, 8, 16) else rng.sample(reach, min(5, len(reach))):
-            A = rng.choice((0, 0, 1, -7))
-            yield Case("a term twice", text_of(whole + [row("T", i, j, A)]), 10, len(whole) + 1)
-            first = rng.randrange(5, len(whole) + 1)
-            yield Case("a term twice", text_of([*whole[:first], row("T", *map(int, whole[first - 1][1:3]), A), *whole[first:]]), 10, first + 1)
-        outside = {(d + 1 - i, i) for i in range(10) if d < 20} | {(9, 0), (0, 9), (9, 9), (8, 9), (256, 0), (0, MOST31), (MOST31, MOST31), (MOST31, 1)}
-        for i, j in sorted(outside - set(reach)):
-            at = rng.randrange(4, len(whole) + 1)
-            if min(i, j) >= 0:
-                yield Case("a term beyond", text_of([*whole[:at], row("T", i, j, rng.choice((0, 1))), *whole[at:]]), 10, at + 1)
+    """Terms for declared degrees up to the largest."""
+    return (case for d in (*range(10), 15, 16, 17, 20, MOST31) for case in terms_of(rng, d))
 
 
 def stretched(rows, digit, length):
@@ -247,23 +278,28 @@ def stretched(rows, digit, length):
     return text + digit * (length - len(text) - 1) + b"\n"
 
 
+def long_texts(rng, length):
+    """Texts of one length, about the limit or longer: no good text is nearly so long, so each of them has a bad line."""
+    rows = small(rng)
+    text, last = text_of(rows), len(rows)
+    left = length - len(text)
+    for kind, long, line in (
+        ("a long number", stretched(rows, b"9", length), last),
+        ("many zeros", stretched(rows, b"0", length), last),
+        ("many LFs", text + b"\n" * left, last + 1),
+        ("many LFs", b"\n" * length, 1),
+        ("a long line", text + b"T" * left, last + 1),
+        ("many tabs", text + b"\t" * (left - 1) + b"\n", last + 1),
+        ("one term again and again", text + (b"T\t0\t0\t0\n" * left)[:left], None),
+        ("bytes at random", rng.randbytes(length), None),
+    ):
+        yield Case(kind, long, *((11, 0) if length > LONGEST else (10, line)))
+
+
 def lengths(rng):
-    """Texts of every length about the limit, and longer ones: no good text is nearly so long, so each of them has a bad line."""
-    for length in (LONGEST - 1, LONGEST, LONGEST + 1, LONGEST + 2, 2 * LONGEST, 65_535, 65_536, 65_537, 100_000, CEILING):
-        rows = small(rng)
-        text, last = text_of(rows), len(rows)
-        left = length - len(text)
-        for kind, long, line in (
-            ("a long number", stretched(rows, b"9", length), last),
-            ("many zeros", stretched(rows, b"0", length), last),
-            ("many LFs", text + b"\n" * left, last + 1),
-            ("many LFs", b"\n" * length, 1),
-            ("a long line", text + b"T" * left, last + 1),
-            ("many tabs", text + b"\t" * (left - 1) + b"\n", last + 1),
-            ("one term again and again", text + (b"T\t0\t0\t0\n" * left)[:left], None),
-            ("bytes at random", rng.randbytes(length), None),
-        ):
-            yield Case(kind, long, *((11, 0) if length > LONGEST else (10, line)))
+    """Texts of every length about the limit, and longer ones."""
+    all_lengths = (LONGEST - 1, LONGEST, LONGEST + 1, LONGEST + 2, 2 * LONGEST, 65_535, 65_536, 65_537, 100_000, CEILING)
+    return (case for length in all_lengths for case in long_texts(rng, length))
 
 
 # ---- texts damaged at random

@@ -59,6 +59,11 @@ def answers_in(output, count):
         sys.exit(f"texts: the answers to {count} texts have {at} bytes, and {len(output)} bytes came")
 
 
+def run(program, cases):
+    """The program's answers."""
+    return list(answers_in(written_by(program, given(case.text for case in cases)), len(cases)))
+
+
 def second_answer(text):
     return second_text.read(text), second_text.listing_text(text)
 
@@ -79,20 +84,17 @@ def brief(mine, other):
 
 
 def disagreements(cases, answers, expected):
-    wrong = [row for row in zip(range(len(cases)), cases, answers, expected) if row[2] != row[3]]
-    for at, case, got, wanted in wrong[:SHOWN]:
-        print(f"disagreement on --only {at}, {case.kind}: {shown(case.text)}")
-        print(f"    the proved program: {brief(got, wanted)}\n    the second program: {brief(wanted, got)}")
-    return len(wrong)
+    """What is to be said of each text, by its number, that the two programs answer otherwise."""
+    return [f"disagreement on --only {at}, {case.kind}: {shown(case.text)}\n"
+            f"    the proved program: {brief(got, wanted)}\n    the second program: {brief(wanted, got)}"
+            for at, (case, got, wanted) in enumerate(zip(cases, answers, expected)) if got != wanted]
 
 
 def misjudged(cases, expected):
-    """The texts of which the second program does not answer what follows from how they were made."""
-    wrong = [(case, answer[:2]) for case, (answer, _) in zip(cases, expected)
-             if case.number not in (None, answer[0]) or case.line not in (None, answer[1])]
-    for case, answer in wrong[:SHOWN]:
-        print(f"{case.kind}, which gives {case.number} at line {case.line}: the second program answers {answer} on {shown(case.text)}")
-    return len(wrong)
+    """The same for each text of which the second program does not answer what follows from how it was made."""
+    return [f"{case.kind}, which gives {case.number} at line {case.line}: the second program answers {answer[:2]} on {shown(case.text)}"
+            for case, (answer, _) in zip(cases, expected)
+            if case.number not in (None, answer[0]) or case.line not in (None, answer[1])]
 
 
 def met(text, answer, written):
@@ -269,8 +271,10 @@ def main():
     if chosen.only is not None:
         cases = cases[chosen.only:chosen.only + 1]
     expected = [second_answer(case.text) for case in cases]
-    answers = list(answers_in(written_by(chosen.program, given(case.text for case in cases)), len(cases)))
+    answers = run(chosen.program, cases)
     wrong, other = disagreements(cases, answers, expected), misjudged(cases, expected)
+    for line in wrong[:SHOWN] + other[:SHOWN]:
+        print(line)
     missing, runs, faults = [], [], []
     if chosen.only is None:
         missing, faults = tally(cases, expected), list(sheets.faults())
@@ -280,7 +284,7 @@ def main():
     failed = [(name, fault) for name, fault in runs if fault]
     for line in [f"never came up: {thing}" for thing in missing] + faults + [f"listing, {name}: {fault}" for name, fault in failed]:
         print(line)
-    print(f"texts: seed {chosen.seed}, {len(cases) - wrong} of {len(cases)} answers agree, "
+    print(f"texts: seed {chosen.seed}, {len(cases) - len(wrong)} of {len(cases)} answers agree, "
           f"{len(runs) - len(failed)} of {len(runs)} runs of listing are right, {len(sheets.names())} sheets with {len(faults)} faults")
     return 1 if wrong or other or missing or failed or faults else 0
 
