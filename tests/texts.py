@@ -1,7 +1,7 @@
 """The proved reading of texts, and the listing program, agree with the second program.
 
     python3 tests/texts.py [--seed S] [--cases N]     N random texts, beside those of known make
-    python3 tests/texts.py --only NUMBER              one text of that run again
+    python3 tests/texts.py --only NUMBER              one text of that run again, by its number
 
 The program target/bin/texts is run once, on all texts of tests/text_cases.py. It is given for each text its length in 4 bytes and the text. It
 answers for each 53 words of 8 bytes, all little-endian: the number, the line, d, X, Y, s, k, the mode and the 45 coefficients; then in one more word
@@ -85,7 +85,7 @@ def brief(mine, other):
 
 def disagreements(cases, answers, expected):
     """What is to be said of each text, by its number, that the two programs answer otherwise."""
-    return [f"disagreement on --only {at}, {case.kind}: {shown(case.text)}\n"
+    return [f"disagreement on text {at}, {case.kind}: {shown(case.text)}\n"
             f"    the proved program: {brief(got, wanted)}\n    the second program: {brief(wanted, got)}"
             for at, (case, got, wanted) in enumerate(zip(cases, answers, expected)) if got != wanted]
 

@@ -1,0 +1,189 @@
+"""Every call on many random cases: the proved programs and the second program give the same answers, counted by the number of the answer.
+
+    python3 tests/many.py [--seed S] [--cases N] [--jobs J]     N random cases of each of the seven calls, in J processes at a time
+    python3 tests/many.py [--seed S] [--cases N] --part PART    one part of that run again, as a disagreement names it
+
+The calls are check, value, bounds, raster, listing, read, and answer, which is the listing program's text; a text is a case of read and of answer.
+The cases are those of tests/many_cases.py, made in parts: which cases a part has follows from the seed and its name alone. For each part
+target/bin/compare or target/bin/texts is run once, and all that it answers is compared as in tests/compare.py and tests/texts.py: every number,
+every entry of every lent place, every byte of a listing. Every walk of the second program is held to what the page says of walks.
+
+At the end stand, for each call, the accepted cases by degree and by depth, and the cases that agreed by their number, 0 for an accepted one, with
+how many of a call's cases are distinct. Anything that disagrees makes the run fail, as does a number that the call can't be refused by; and where
+there are as many cases as by default, or more, a number, degree or depth that never came up. So many take too long for the gate.
+"""
+import argparse
+import collections
+import concurrent.futures
+import hashlib
+import itertools
+import os
+import random
+import sys
+import time
+
+sys.dont_write_bytecode = True  # nothing is left in the tree
+import cases
+import compare
+import texts
+from many_cases import random_text, single_cases, walk_cases
+from program import BUILT
+
+CASES = 100_000
+NUMBERS = range(12)
+REFUSALS = {**cases.REFUSALS, "read": texts.REFUSALS, "answer": texts.REFUSALS}
+# the kinds of parts: the calls of each, and how many cases of each of them a part has, so that it takes some seconds
+KINDS = {"walks": (cases.WALKS, 500), "texts": (("read", "answer"), 1000), "sheets": (cases.SINGLE, 5000)}
+SHOWN = 5
+
+Part = collections.namedtuple("Part", "kind number count")
+# how often a call's answers agreed, by number, and of accepted cases by degree and depth; a call's distinct cases; and what is wrong
+Found = collections.namedtuple("Found", "agreed distinct faults")
+
+
+def name_of(part):
+    return f"{part.kind}-{part.number}"
+
+
+def parts_of(count):
+    """The parts that have so many cases of each call, those that take long first."""
+    return [Part(kind, at // size, min(size, count - at)) for kind, (_, size) in KINDS.items() for at in range(0, count, size)]
+
+
+# ---- one part
+
+def nothing_yet():
+    return Found(collections.Counter(), collections.defaultdict(set), [])
+
+
+def noted(found, call, given, number, d, k, agrees):
+    """Counts one case, and keeps a few bytes of it that others share only by a rare chance."""
+    found.distinct[call].add(hashlib.blake2b(given, digest_size=10).digest())
+    if agrees:
+        found.agreed[call, "number", number] += 1
+    if agrees and number == 0:
+        found.agreed[call, "degree", d] += 1
+        found.agreed[call, "depth", k] += 1
+
+
+def compared(found, made):
+    """The calls that are given a sheet."""
+    expected, faults, _ = compare.second_answers(made)
+    answers = compare.run(compare.PROGRAM, made)
+    for (call, args), got, wanted in zip(made, answers, expected):
+        noted(found, call, compare.record(call, args), wanted[0], args[0], args[5], got == wanted)
+    found.faults.extend(compare.faults_of_walks(faults) + compare.disagreements(made, answers, expected))
+
+
+def told_by(written):
+    """The number that a text of the listing program tells."""
+    return int(written.split(b"\t")[1]) if written.startswith(b"refused\t") else 0
+
+
+def compared_texts(found, made):
+    """The calls that are given a text."""
+    expected = [texts.second_answer(case.text) for case in made]
+    answers = texts.run(BUILT / "texts", made)
+    for case, (got, got_text), (wanted, wanted_text) in zip(made, answers, expected):
+        number, _, d, _, _, _, k, *_ = wanted
+        noted(found, "read", case.text, number, d, k, got == wanted)
+        noted(found, "answer", case.text, told_by(wanted_text), d, k, got_text == wanted_text)
+    found.faults.extend(texts.misjudged(made, expected) + texts.disagreements(made, answers, expected))
+
+
+def run_part(seed, part):
+    """What is found of one part: its cases are made, answered by both programs and compared."""
+    rng, found = random.Random(f"{seed} {name_of(part)}"), nothing_yet()
+    try:
+        if part.kind == "texts":
+            compared_texts(found, [random_text(rng) for _ in range(part.count)])
+        else:
+            maker = walk_cases if part.kind == "walks" else single_cases
+            compared(found, [case for _ in range(part.count) for case in maker(rng)])
+    except SystemExit as end:  # a program that does not end well, or does not answer all
+        found.faults.append(str(end))
+    return found
+
+
+# ---- all parts
+
+def gathered(seed, parts, jobs):
+    """What is found of all parts. What is wrong is printed part by part."""
+    found, start = nothing_yet(), time.monotonic()
+    with concurrent.futures.ProcessPoolExecutor(jobs) as pool:
+        for done, (part, one) in enumerate(zip(parts, pool.map(run_part, itertools.repeat(seed), parts)), 1):
+            found.agreed.update(one.agreed)
+            for call, some in one.distinct.items():
+                found.distinct[call].update(some)
+            found.faults.extend(one.faults)
+            for fault in one.faults[:SHOWN]:
+                print(f"--part {name_of(part)}: {fault}", flush=True)
+            if 10 * done // len(parts) > 10 * (done - 1) // len(parts):
+                print(f"many: {done} of {len(parts)} parts after {time.monotonic() - start:.0f} seconds", flush=True)
+    return found
+
+
+def wanted(call):
+    """What every call must show: each number that it can answer, each degree and each depth."""
+    yield from (("number", number) for number in (0, *REFUSALS[call]))
+    yield from (("degree", d) for d in range(9))
+    yield from (("depth", k) for k in range(8))
+
+
+def unwanted(agreed, count):
+    """Numbers that came up and can't, and where there are many cases the things that never came up."""
+    for call in REFUSALS:
+        can = set(wanted(call))
+        yield from (f"{call} is refused by {number}" for number in NUMBERS if agreed[call, "number", number] and ("number", number) not in can)
+        if count >= CASES:
+            yield from (f"never came up: {call}, {thing} {at}" for thing, at in wanted(call) if not agreed[call, thing, at])
+
+
+# ---- the tables
+
+def shown(title, heads, rows):
+    """Prints rows of numbers under their heads, each after its name."""
+    print(title)
+    for name, *numbers in [("", *heads), *rows]:
+        print(f"{name:8}" + "".join(f"{number:>9}" for number in numbers))
+
+
+def all_of(agreed, call):
+    """How many cases of a call agreed."""
+    return sum(agreed[call, "number", number] for number in NUMBERS)
+
+
+def tables(found, calls):
+    agreed = found.agreed
+    for thing, size in (("degree", 9), ("depth", 8)):
+        shown(f"accepted, by {thing}", range(size), [(call, *(agreed[call, thing, at] for at in range(size))) for call in calls])
+    rows = [(call, *(agreed[call, "number", number] or (0 if number in (0, *REFUSALS[call]) else "-") for number in NUMBERS),
+             all_of(agreed, call), len(found.distinct[call])) for call in calls]
+    columns = [[number for number in column if number != "-"] for column in list(zip(*rows))[1:]]
+    rows.append(("total", *(sum(column) if column else "-" for column in columns)))
+    shown("agreed, by number: 0 is accepted, and by - a call can't be refused", [*NUMBERS, "total", "distinct"], rows)
+
+
+def main():
+    options = argparse.ArgumentParser(description="Compares the proved programs with the second program on many random cases of every call.")
+    options.add_argument("--seed", type=int, default=20250303)
+    options.add_argument("--cases", type=int, default=CASES)
+    options.add_argument("--jobs", type=int, default=os.cpu_count())
+    options.add_argument("--part")
+    chosen = options.parse_args()
+    parts = [part for part in parts_of(chosen.cases) if chosen.part in (None, name_of(part))]
+    if not parts:
+        sys.exit("many: there is no such part, or there are no cases")
+    found = gathered(chosen.seed, parts, chosen.jobs)
+    missing = [] if chosen.part else list(unwanted(found.agreed, chosen.cases))
+    for fault in missing:
+        print(fault)
+    tables(found, [call for call in REFUSALS if any(call in KINDS[part.kind][0] for part in parts)])
+    given = sum(part.count * len(KINDS[part.kind][0]) for part in parts)
+    agreed = sum(all_of(found.agreed, call) for call in REFUSALS)
+    print(f"many: seed {chosen.seed}, {agreed} of {given} answers agree, {len(found.faults) + len(missing)} faults")
+    return 1 if agreed != given or found.faults or missing else 0
+
+
+if __name__ == "__main__":
+    sys.exit(main())
