@@ -22,6 +22,7 @@ from math import comb, gcd, lcm
 sys.dont_write_bytecode = True  # nothing is left in the tree
 import second
 import second_text
+import second_walk
 from program import BUILT, ROOT, written_by
 from script import module
 
@@ -178,9 +179,9 @@ def walked(example, cleared_at_zero=False):
         lower, upper = second.two_bounds(second.local_form(d, coefficients, DEPTH, *second.cell(0, 0, 0, DEPTH, j, p, q)), 0)
         return "above" if cleared_at_zero and lower == 0 else "below" if cleared_at_zero and upper == 0 else second.verdict_of(lower, upper)
 
-    found = second.visited_cells(verdict, DEPTH)
+    found = second_walk.visited_cells(verdict, DEPTH)
     cells = {at: MARKS[seen] for at, seen in found.items() if seen != "open" or at[0] == DEPTH}
-    return second.tally_of(found, DEPTH)[1], len(second.cut_cells(found, DEPTH)), cells
+    return second_walk.tally_of(found, DEPTH)[1], len(second_walk.cut_cells(found, DEPTH)), cells
 
 
 # ---- the document

@@ -4,6 +4,7 @@ The comparisons, the benchmark and the script `sheet` start the proved programs 
 """
 import os
 import pathlib
+import resource
 import shutil
 import subprocess
 import sys
@@ -29,9 +30,10 @@ def settings():
     return {name: setting for name, setting in os.environ.items() if not name.startswith("QEMU_")}
 
 
-def ended(program, given):
-    """A run of a program on what it is given: its status and what it wrote."""
-    return subprocess.run(command(program), input=given, capture_output=True, env=settings())
+def ended(program, given, stack=None):
+    """A run of a program on what it is given, with a stack of so many bytes where that is said: its status and what it wrote."""
+    limit = stack and (lambda: resource.setrlimit(resource.RLIMIT_STACK, (stack, stack)))
+    return subprocess.run(command(program), input=given, capture_output=True, env=settings(), preexec_fn=limit)
 
 
 def written_by(program, given):

@@ -34,6 +34,7 @@ from second_text import LONGEST, PLACES, WHOLE, WHOLE_LISTING
 REFUSALS = (1, 3, 4, 5, 6, 10, 11)
 WORDS = 8 + PLACES + 1
 SHOWN = 5
+STACK = 512 * 1024
 FULL = "/dev/full"
 
 
@@ -251,6 +252,9 @@ def listing_runs(program, cases, expected):
     yield "one byte more", fault_of(ended(program, long + b"\n"), b"refused\t11\t0\n")
     yield "one byte more in pieces", fault_of(in_pieces(program, (long, b"\n")), b"refused\t11\t0\n")
     yield "megabytes", fault_of(ended(program, WHOLE + b"T\t0\t0\t0\n" * 500_000), b"refused\t11\t0\n")
+    # the deepest walk and the longest listing, on a small stack: no theorem bounds the stack (docs/ASSUMPTIONS.md)
+    deepest = second_text.written("D 8", "B 0 0 0", "K 7", "M 0")
+    yield "the deepest walk", fault_of(ended(program, deepest, stack=STACK), second_text.listing_text(deepest))
     yield from unreadable(program)
     yield from unwritable(program)
     for kind, text, written in some(cases, expected):
