@@ -1,8 +1,8 @@
 """The tree keeps its promises about itself.
 
-- docs/PROMISES.md and docs/PAGE.md name definitions, theorems, code and tests by file and name: each is declared in that file, and
+- docs/PROMISES.md, docs/THEORY.md and docs/PAGE.md name definitions, theorems, code and tests by file and name: each is declared in that file, and
   public where another file may bring it in. The must-fail edits that they name are there, and docs/PROMISES.md has a row for each.
-- Where a table of docs/PROMISES.md has the columns 'statement' and 'theorem', the statement is closed, and the theorem is declared with
+- Where a table of the first two has the columns 'statement' and 'theorem', the statement is closed, and the theorem is declared with
   just that statement as its type, brought in from the file of specs/. Every other statement of such a file has its row too.
 - docs/PAGE.md has in each row a sentence, a definition, and what stands behind it: something that is named.
 - Every file of a crate that a document names stands in the tree.
@@ -23,7 +23,9 @@ CALLS = ("sheet", "walk", "reading", "text")
 # what is of Type 0 and no statement: a kind of thing
 KINDS = {("forms", "Points", "Point"), ("verdicts", "Walking", "Verdicts")}
 # the documents that cite by file and name
-CITING = ("PROMISES.md", "PAGE.md")
+CITING = ("PROMISES.md", "THEORY.md", "PAGE.md")
+# those that give a theorem for each statement
+STATING = ("PROMISES.md", "THEORY.md")
 CITED = re.compile(r"`((?:crates|tests)/[^`]+\.(?:antt|rt|py))`((?:,?\s+`[^`/]+`)+)")
 # how a name is declared, by the file's ending; a sample, which no file brings in, need not be public
 DECLARED = {
@@ -118,8 +120,8 @@ def tables(page):
 
 
 def stated():
-    """The rows of docs/PROMISES.md under the columns 'statement' and 'theorem': those two cells of each."""
-    return [cells[-2:] for columns, cells in tables("PROMISES.md") if columns[-2:] == ["statement", "theorem"]]
+    """The rows under the columns 'statement' and 'theorem': those two cells of each."""
+    return [cells[-2:] for page in STATING for columns, cells in tables(page) if columns[-2:] == ["statement", "theorem"]]
 
 
 def sentences():
@@ -154,7 +156,7 @@ def statements():
         proved = names_in(theorem, "proofs")
         met.update(said)
         if not said or len(said) != len(proved):
-            yield f"docs/PROMISES.md: {statement} | {theorem} has not one theorem for each closed statement"
+            yield f"{statement} | {theorem} has not one theorem for each closed statement"
             continue
         for (crate, file, name), (home, proof, witness) in zip(said, proved):
             path = ROOT / "crates" / home / "proofs" / f"{proof}.antt"
@@ -164,7 +166,7 @@ def statements():
             elif not brings(path, crate, file, name):
                 yield f"crates/{home}/proofs/{proof}.antt does not bring in {name} from crates/{crate}/specs/{file}.antt"
     for crate, file, name in sorted(complete - met - KINDS):
-        yield f"docs/PROMISES.md has no theorem for the statement {name} of crates/{crate}/specs/{file}.antt"
+        yield f"no document has a theorem for the statement {name} of crates/{crate}/specs/{file}.antt"
 
 
 def given(head, answer):
