@@ -6,8 +6,7 @@ use mathlib.Core.Logic.{⊎-elim}
 use Prim.Native.Nat.{ℕ, _+_, _*_, _-_, _^_, _≤_}
 use native.Mathlib.Nat as Nat
 use native.Mathlib.Omega.{arith}
-use borrow.Author.Tests.{le-ltb, leb-false, lt-leb}
-use lib.Dec.{leb}
+use borrow.Author.Tests.{le-ltb, lt-leb}
 use lib.IntN.{ℤ, pos, _+ℤ_, _-ℤ_, _*ℤ_, natAbs, pow}
 use Rattle.algebra.specs.Sum.{sum, _⋯_}
 use Rattle.algebra.proofs.Integer.{*ℤ-idl, *ℤ-idr}
@@ -28,9 +27,8 @@ use Rattle.page.specs.Scaled.{scaled, half-side, U0, V0, value-at, f-at}
 use Rattle.page.specs.Bounds.{lower, upper}
 use Rattle.page.specs.Weight.{weight, Accepted}
 use Rattle.page.specs.Refusals.{Row, first, refusal, to-check}
-use Rattle.page.specs.Steps.{range-refusal}
 use Rattle.page.specs.Facts.{ScalesF, AtWhole, SameFraction, BoundsInOrder, SharedEdges, Expands, AtMost45, AcceptedByCheck, GivenBy, GivenExactly}
-use Rattle.page.proofs.Rows.{check-rows, range-passed, range-0, outside-size, both-zero, next-row, rest}
+use Rattle.page.proofs.Rows.{check-rows, check-passed, range-0, outside-size, rest}
 use Rattle.page.proofs.Demand3.{contained}
 use Rattle.page.proofs.Page.{polynomial, centre, F-is, G-is, value-is}
 
@@ -92,13 +90,8 @@ at-most-45 d h = rw (row-start-all d) at (places-45 d h)
 
 -- ---- accepted, by the definition and by check
 pub accepted-by-check : AcceptedByCheck
-accepted-by-check S = (passes, passed)
+accepted-by-check S = (passes, check-passed S)
   where
-    passed : refusal (to-check S) ≡ 0 → Accepted S
-    passed e =
-        let r = both-zero (range-refusal S) _ (sym (check-rows S) ∙ e) in let w = next-row (leb (2 ^ 62) (weight S)) 5 0 (r .1) in
-        record { ranges = range-passed S (r .0); light = leb-false (2 ^ 62) (weight S) (w .0) }
-
     passes : Accepted S → refusal (to-check S) ≡ 0
     passes a =
         let r = a .ranges in

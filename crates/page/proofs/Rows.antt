@@ -47,6 +47,12 @@ two-rows zero false true m = refl
 two-rows zero false false m = refl
 two-rows (suc n) a b m = refl
 
+-- the row 6, and what comes after it
+one-row : (n : ℕ) (b : Bool) (m : ℕ) → or-else n (cond b 6 m) ≡ or-else (or-else n (cond b 6 0)) m
+one-row zero true m = refl
+one-row zero false m = refl
+one-row (suc n) b m = refl
+
 module _ (S : Sheet) where
   -- the conditions of rows 4 and 6
   abbrev misframed : Bool
@@ -65,9 +71,12 @@ module _ (S : Sheet) where
   unfolding table first
   check-rows = after-four (cond too-heavy 6 0)
 
-  pub point-rows : (u v : ℤ) → refusal (at-point S u v) ≡ or-else (range-refusal S) (cond too-heavy 6 (cond (misplaced S (point u v)) 8 0))
+  -- at a point: what check tries, and then row 8
+  pub point-rows : (u v : ℤ) → refusal (at-point S u v) ≡ or-else (refusal (to-check S)) (cond (misplaced S (point u v)) 8 0)
   unfolding table first
-  point-rows u v = after-four (cond too-heavy 6 (cond (misplaced S (point u v)) 8 0))
+  point-rows u v =
+      let m : ℕ = cond (misplaced S (point u v)) 8 0 in
+      after-four (cond too-heavy 6 m) ∙ one-row (range-refusal S) too-heavy m ∙ ap (λ n. or-else n m) (sym check-rows)
 
   pub mode-rows : (mode : ℕ) → mode-refusal S mode ≡ or-else (range-refusal S) (cond (ltb 1 mode) 5 (cond too-heavy 6 0))
   unfolding table first mode-refusal
@@ -145,10 +154,13 @@ heavy S e h = le-leb (2 ^ 62) (weight S) (min-met (2 ^ 62) (weight S) (sym e ∙
 pub not-heavy : (S : Sheet) {w : ℕ} → w ≡ min (weight S) (2 ^ 62) → (w ≡ 2 ^ 62 → ⊥) → leb (2 ^ 62) (weight S) ≡ false
 not-heavy S {w} e h = lt-leb (2 ^ 62) (weight S) (omega (arith, h))
 
+pub check-passed : (S : Sheet) → refusal (to-check S) ≡ 0 → Accepted S
+check-passed S e =
+    let r = both-zero (range-refusal S) _ (sym (check-rows S) ∙ e) in let w = next-row (leb (2 ^ 62) (weight S)) 5 0 (r .1) in
+    record { ranges = range-passed S (r .0); light = leb-false (2 ^ 62) (weight S) (w .0) }
+
 pub point-passed : (S : Sheet) (u v : ℤ) → refusal (at-point S u v) ≡ 0 → Accepted S × (misplaced S (point u v) ≡ false)
-point-passed S u v e =
-    let r = both-zero (range-refusal S) _ (sym (point-rows S u v) ∙ e) in let w = next-row (leb (2 ^ 62) (weight S)) 5 _ (r .1) in let m = next-row (misplaced S (point u v)) 7 0 (w .1) in
-    (record { ranges = range-passed S (r .0); light = leb-false (2 ^ 62) (weight S) (w .0) }, m .0)
+point-passed S u v e = let r = both-zero (refusal (to-check S)) _ (sym (point-rows S u v) ∙ e) in (check-passed S (r .0), next-row (misplaced S (point u v)) 7 0 (r .1) .0)
 
 pub mode-passed : (S : Sheet) (mode : ℕ) → mode-refusal S mode ≡ 0 → Accepted S × (mode ≤ 1)
 mode-passed S mode e =
@@ -211,3 +223,8 @@ module _ {X : Type 0} (refused : ℕ → X) (values : X) where
 pub unless-ap : {X Y : Type 0} (f : X → Y) (n : ℕ) (r : ℕ → X) (v : X) → f (unless n r v) ≡ unless n (λ m. f (r m)) (f v)
 unless-ap f zero r v = refl
 unless-ap f (suc n) r v = refl
+
+-- the number of it is the refusal's
+pub unless-same : (n : ℕ) → unless n (λ m. m) 0 ≡ n
+unless-same zero = refl
+unless-same (suc n) = refl

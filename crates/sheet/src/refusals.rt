@@ -1,9 +1,12 @@
 // The conditions of the refusal table that a point or a cell adds, tried in its order.
+use crate::Checked;
+use crate::check;
 ghost use mathlib.Core.Path.{_≡_};
 ghost use Prim.Native.Nat.{_≤_};
 ghost use lib.IntN.{natAbs};
 ghost use Rattle.page.specs.Sheet.{sheet-of};
 ghost use Rattle.page.specs.Refusals.{outside-side, refusal, at-point, in-cell};
+ghost use Rattle.sheet.specs.Answers.{states-weight};
 
 // U outside its side of the closed square, and so of V.
 fn outside(z: i32, s: u32, k: u32, u: i64) -> bool
@@ -21,7 +24,20 @@ fn outside(z: i32, s: u32, k: u32, u: i64) -> bool
     high < u
 }
 
-// The first of 1, 2, 3, 4, 6, 8 that holds, or 0.
+// The number that an answer of `check` states: 0 where the sheet is accepted.
+fn number_of(answer: Checked) -> u32
+    ensures { λ r. ⌜ r ≡ states-weight answer .number ⌝ }
+{
+    match answer {
+        Checked::Accepted {
+            weight: _,
+            spare: _,
+        } => 0,
+        Checked::Refused(number) => number,
+    }
+}
+
+// The first that holds of those that `check` tries, and then of 8, or 0.
 pub fn point_refusal(
     d: u32,
     coefficients: &[i32],
@@ -34,12 +50,9 @@ pub fn point_refusal(
 ) -> u32
     ensures { λ r. ⌜ r ≡ refusal (at-point (sheet-of d (now (coefficients .entry)) x y s k) u v) ⌝ }
 {
-    let first = cells::range_refusal(d, coefficients, x, y, s, k);
+    let first = number_of(check(d, coefficients, x, y, s, k));
     if first != 0 {
         return first;
-    }
-    if cells::sheet_weight(d, coefficients, x, y, s, k) == numbers::CEILING {
-        return 6;
     }
     if outside(x, s, k, u) {
         return 8;
