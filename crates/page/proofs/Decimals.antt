@@ -1,19 +1,20 @@
 -- A number in decimal: its digits, how many there are at most, and that what is written is what is read.
 use mathlib.Core.Path.{_≡_, refl, sym, _∙_, ap}
-use mathlib.Core.Bool.{true, _&&_, false≢true}
+use mathlib.Core.Bool.{Bool, true, false, _&&_, false≢true}
 use mathlib.Core.List.{List, [], _∷_, _++_, append-assoc, append-nil}
 use Prim.Native.Nat.{ℕ, zero, suc, _+_, _*_, _-_, _/_, _%_, _^_, _≤_, _<_}
 use native.Mathlib.Nat as Nat
 use native.Mathlib.Numerals.{add-one}
 use native.Mathlib.Decide.{decLt, ℕ-discrete}
 use native.Mathlib.Omega.{arith}
-use lib.Dec.{leb}
+use lib.Dec.{leb, eqb}
+use lib.IntN.{ℤ, pos, negsuc, negℤ}
 use lib.ListN.{length, length-append}
-use borrow.Author.Tests.{leb-true, lt-ltb, le-ltb, le-leb, eq-eqb, ne-eqb}
+use borrow.Author.Tests.{leb-true, lt-ltb, le-ltb, le-leb, eq-eqb, ne-eqb, eqb-true, eqb-false, not-true}
 use Rattle.algebra.proofs.Choice.{and-left, and-right, and-both}
-use Rattle.page.specs.SheetText.{is-digit, all-digits, is-empty, is-decimal, amount}
+use Rattle.page.specs.SheetText.{is-digit, all-digits, is-empty, is-decimal, amount, is-written, worth}
 use Rattle.page.specs.ListingText.{digits-within, decimal}
-use Rattle.page.specs.TextFacts.{DecimalReads, DecimalOnly}
+use Rattle.page.specs.TextFacts.{DecimalReads, DecimalOnly, WrittenOnce}
 
 -- ---- the digits of a number: one below ten, and else those of its tenth and the last one
 pub decimal-one : (n : ℕ) → n < 10 → decimal n ≡ (48 + n) ∷ []
@@ -150,3 +151,29 @@ decimal-only (b ∷ bs) h =
       | yes z ↦ rw (w .plain z) e
       | no n ↦ decimal-on (10 * 0 + (b - 48)) bs (omega arith) (w .others) ∙ ap (λ l. l ++ bs) e
     ]
+
+-- ---- with a sign: a number as it is written, and that it is well written in no other way
+written : ℤ → List ℕ
+written (pos n) = decimal n
+written (negsuc n) = 45 ∷ decimal (suc n)
+
+-- a number after `-`
+written-minus : (n : ℕ) → 1 ≤ n → written (negℤ (pos n)) ≡ 45 ∷ decimal n
+unfolding written
+written-minus zero h = absurd (omega arith)
+written-minus (suc n) h = refl
+
+written-only : (f : List ℕ) → is-written f ≡ true → written (worth f) ≡ f
+unfolding written
+written-only [] h = absurd (false≢true h)
+written-only (b ∷ bs) h = by (eqb b 45) refl
+  where
+    by : (minus : Bool) → eqb b 45 ≡ minus → written (worth (b ∷ bs)) ≡ b ∷ bs
+    by true e =
+        let i = rw e at h in
+        let some = eqb-false (amount 0 bs) 0 (not-true _ (and-right (is-decimal bs) _ i)) in
+        rw e (written-minus (amount 0 bs) (omega arith) ∙ ap (λ l. 45 ∷ l) (decimal-only bs (and-left (is-decimal bs) _ i)) ∙ ap (λ m. m ∷ bs) (sym (eqb-true b 45 e)))
+    by false e = rw e (decimal-only (b ∷ bs) (and-left (is-decimal (b ∷ bs)) _ (rw e at h)))
+
+pub written-once : WrittenOnce
+written-once f g h i e = sym (written-only f h) ∙ ap written e ∙ written-only g i
