@@ -1,20 +1,22 @@
 -- The coefficients of a text in the page's order: row by row, how many they are, and that they are those of i + j at most d.
 use mathlib.Core.Path.{_≡_, refl, sym, _∙_, ap}
 use mathlib.Core.List.{List, [], _∷_, _++_, map, flatMap, append-nil}
-use Prim.Native.Nat.{ℕ, zero, suc, _+_, _-_, _≤_}
+use Prim.Native.Nat.{ℕ, zero, suc, _+_, _-_, _≤_, _<_}
 use native.Mathlib.Nat as Nat
 use native.Mathlib.Numerals.{add-one}
 use native.Mathlib.Omega.{arith}
-use lib.IntN.{ℤ}
-use lib.ListN.{length, take, length-append, length-map}
-use lib.Seq.{take-at}
+use lib.IntN.{ℤ, pos}
+use lib.ListN.{length, take, getD, length-append, length-map, List·getD-append}
+use lib.Seq.{take-at, getD-append-add}
 use Rattle.algebra.specs.Sum.{span, _⋯_}
 use Rattle.algebra.specs.Triangle.{row-start}
-use Rattle.algebra.proofs.Run.{⋯-run, ⋯-member, length-run, span-none, span-next}
+use Rattle.algebra.proofs.Run.{⋯-run, ⋯-member, length-run, span-none, span-next, span-first, span-++}
 use Rattle.algebra.proofs.Places.{row-start-zero, row-start-next, row-start-all}
 use Rattle.verdicts.proofs.Lists.{map-cong, flatMap-++, flatMap-cong}
+use Rattle.verdicts.proofs.Bytes.{getD-map-run}
 use Rattle.page.specs.Sheet.{count}
 use Rattle.page.specs.SheetText.{in-order}
+use Rattle.page.specs.ReadFacts.{InOrderAt}
 
 -- ---- one row, A(i,0) to A(i,d-i), and how many it has
 abbrev pub row-of : ℕ → (ℕ → ℕ → ℤ) → ℕ → List ℤ
@@ -61,3 +63,19 @@ order-cong d h = flatMap-cong (0 ⋯ d) (λ i m. map-cong (0 ⋯ (d - i)) (λ j 
 -- ---- the coefficients before any others
 pub order-first : (d : ℕ) (A : ℕ → ℕ → ℤ) (rest : List ℤ) → take (count d) (in-order d A ++ rest) ≡ in-order d A
 order-first d A rest = take-at (in-order d A) rest (count d) (order-long d A)
+
+-- ---- A(i,j) stands at its place: in the row i, after the rows before it
+row-at : (f : ℕ → ℤ) (n j : ℕ) → j ≤ n → getD (map f (0 ⋯ n)) j (pos 0) ≡ f j
+row-at f n j h = ap (λ l. getD (map f l) j (pos 0)) (⋯-run n) ∙ getD-map-run f (pos 0) 0 (suc n) j (omega arith) ∙ ap f (Nat.zero-add j)
+
+-- the rows before i, the row i, and the rest
+row-parts : (d : ℕ) (A : ℕ → ℕ → ℤ) (i : ℕ) → i ≤ d → in-order d A ≡ rows-before d A i ++ (row-of d A i ++ flatMap (row-of d A) (span (suc i) (suc d)))
+unfolding in-order rows-before _⋯_ flatMap
+row-parts d A i h =
+    ap (flatMap (row-of d A)) (span-++ 0 i (suc d) (omega arith) (omega arith) ∙ ap (λ l. span 0 i ++ l) (span-first i (suc d) (omega arith)))
+    ∙ flatMap-++ (row-of d A) (span 0 i) (i ∷ span (suc i) (suc d))
+
+pub in-order-at : InOrderAt
+in-order-at d A i j h =
+    let l : j < length (row-of d A i) = omega (arith, row-long (A i) (d - i)) in
+    rw (row-parts d A i (omega arith), ← rows-long d A i) (getD-append-add (rows-before d A i) _ j (pos 0) ∙ List·getD-append (row-of d A i) _ (pos 0) j l ∙ row-at (A i) (d - i) j (omega arith))

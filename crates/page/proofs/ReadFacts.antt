@@ -13,9 +13,12 @@ use Rattle.page.specs.Sheet.{count}
 use Rattle.page.specs.Weight.{weight}
 use Rattle.page.specs.Refusals.{outside-range, table, first, refusal, unless}
 use Rattle.page.specs.SheetText.{Line, lines, Numbers, bad, good, line-numbers, term-of, is-admitted, coefficient-of, Said, Text, bad-line, well-formed, with-terms, with-line, line-then, term-numbers, terms-from, text-of, sheet-in, to-read, refused, accepted, outcome-of, outcome}
-use Rattle.page.specs.ReadFacts.{AsManyCoefficients, ReadNumber, ReadNever, number-of, rows-of, ReadTable, FirstDecide}
+use Rattle.page.specs.ReadFacts.{TermsAre, AsManyCoefficients, ReadNumber, ReadNever, number-of, rows-of, ReadTable, FirstDecide}
 use Rattle.page.proofs.Rows.{unless-ap}
-use Rattle.page.proofs.Order.{order-long}
+use Rattle.page.proofs.Order.{order-long, in-order-at}
+
+pub terms-are : TermsAre
+terms-are w i j h = in-order-at (w .d) (coefficient-of (w .terms)) i j h
 
 pub as-many-coefficients : AsManyCoefficients
 as-many-coefficients w = order-long (w .d) (coefficient-of (w .terms))

@@ -2,7 +2,7 @@
 use mathlib.Core.Path.{_≡_, refl}
 use mathlib.Core.List.{List, [], _∷_, flatMap}
 use Prim.Native.Nat.{ℕ}
-use lib.IntN.{pos, negsuc, pow, one}
+use lib.IntN.{ℤ, pos, negsuc, pow, one}
 use lib.ListN.{replicate}
 use Rattle.algebra.specs.Sum.{sum, sumℕ, run, span, _⋯_}
 use Rattle.algebra.specs.Binomial.{choose}
@@ -10,11 +10,12 @@ use Rattle.algebra.specs.MinMax.{minℤ, maxℤ}
 use Rattle.algebra.specs.Triangle.{row-start}
 use Rattle.local.specs.Range.{judged}
 use Rattle.verdicts.specs.Walking.{those, walking-order, colour, visited, coloured}
+use Rattle.page.specs.Sheet.{A}
 use Rattle.page.specs.LocalForm.{G}
 use Rattle.page.specs.Bounds.{lower, upper}
 use Rattle.page.specs.Weight.{weight}
 use Rattle.page.specs.Refusals.{table, first}
-use Rattle.page.specs.SheetText.{lines, fields, all-digits, amount, signed, unsigned, bad, good, numbers, terms-from, text-of, in-order, refused, outcome}
+use Rattle.page.specs.SheetText.{lines, fields, all-digits, amount, signed, unsigned, bad, good, numbers, Term, Said, terms-from, text-of, in-order, sheet-in, refused, accepted, outcome}
 use Rattle.page.specs.ListingText.{digits-within, decimal, record-line, total-line, listing-text, written-text}
 
 -- ---- the whole case
@@ -29,6 +30,25 @@ whole-out =
 whole-case : written-text whole-in ≡ whole-out
 unfolding pow one sum sumℕ run span _⋯_ choose minℤ maxℤ row-start judged G lower upper those walking-order colour visited coloured weight table first lines fields all-digits amount terms-from text-of in-order flatMap outcome digits-within decimal record-line total-line listing-text written-text
 whole-case = refl
+
+-- ---- a text of degree 2 that names all six terms, in no order, each with a coefficient of its own
+abbrev six-in : List ℕ
+six-in =
+    68 ∷ 9 ∷ 50 ∷ 10 ∷ 66 ∷ 9 ∷ 48 ∷ 9 ∷ 48 ∷ 9 ∷ 48 ∷ 10 ∷ 75 ∷ 9 ∷ 48 ∷ 10 ∷ 77 ∷ 9 ∷ 48 ∷ 10 ∷ 84 ∷ 9 ∷ 50 ∷ 9 ∷ 48 ∷ 9 ∷ 54 ∷ 10 ∷ 84 ∷ 9 ∷ 48 ∷ 9 ∷ 49 ∷ 9 ∷ 50 ∷ 10
+    ∷ 84 ∷ 9 ∷ 49 ∷ 9 ∷ 49 ∷ 9 ∷ 45 ∷ 53 ∷ 10 ∷ 84 ∷ 9 ∷ 48 ∷ 9 ∷ 48 ∷ 9 ∷ 49 ∷ 10 ∷ 84 ∷ 9 ∷ 49 ∷ 9 ∷ 48 ∷ 9 ∷ 52 ∷ 10 ∷ 84 ∷ 9 ∷ 48 ∷ 9 ∷ 50 ∷ 9 ∷ 51 ∷ 10 ∷ []
+
+abbrev term : ℕ → ℕ → ℤ → Term
+term i j c = record { i = i; j = j; coefficient = c }
+
+abbrev six : Said
+six = record { d = 2; X = pos 0; Y = pos 0; s = 0; k = 0; mode = 0; terms = term 0 2 (pos 3) ∷ term 1 0 (pos 4) ∷ term 0 0 (pos 1) ∷ term 1 1 (negsuc 4) ∷ term 0 1 (pos 2) ∷ term 2 0 (pos 6) ∷ [] }
+
+six-terms :
+    (outcome six-in ≡ accepted six)
+    × (sheet-in six .coefficients ≡ pos 1 ∷ pos 2 ∷ pos 3 ∷ pos 4 ∷ negsuc 4 ∷ pos 6 ∷ [])
+    × (A (sheet-in six) 0 2 ≡ pos 3) × (A (sheet-in six) 1 0 ≡ pos 4) × (A (sheet-in six) 1 1 ≡ negsuc 4) × (A (sheet-in six) 2 0 ≡ pos 6)
+unfolding sumℕ run span _⋯_ row-start weight table first lines fields all-digits amount terms-from text-of in-order flatMap outcome
+six-terms = (refl, refl, refl, refl, refl, refl)
 
 -- ---- the marks: level 7, p 127, q 5, coloured, above and below
 marks :

@@ -1,13 +1,23 @@
--- What the page says of reading a text, as statements, each with all that it holds for. That they hold is proofs/ReadFacts.
+-- What the page says of reading a text, as statements, each with all that it holds for. That they hold is proofs/ReadFacts and Order.
 use mathlib.Core.Path.{_≡_}
 use mathlib.Core.Bool.{true, false}
 use mathlib.Core.List.{List, [], _∷_}
-use Prim.Native.Nat.{ℕ, _≤_}
+use Prim.Native.Nat.{ℕ, _+_, _≤_}
 use lib.Dec.{ltb}
-use lib.ListN.{length, take}
-use Rattle.page.specs.Sheet.{count}
+use lib.IntN.{ℤ, pos}
+use lib.ListN.{length, take, getD}
+use Rattle.algebra.specs.Triangle.{place}
+use Rattle.page.specs.Sheet.{count, A}
 use Rattle.page.specs.Refusals.{Row, _when_, table, first}
-use Rattle.page.specs.SheetText.{Said, Text, bad-line, well-formed, lines, text-of, sheet-in, to-read, Outcome, refused, accepted, outcome}
+use Rattle.page.specs.SheetText.{lines, coefficient-of, Said, Text, bad-line, well-formed, text-of, in-order, sheet-in, to-read, Outcome, refused, accepted, outcome}
+
+-- ---- the order i = 0..d and within it j = 0..d-i: what is listed in that order has A(i,j) at the place of (i,j)
+abbrev pub InOrderAt : Type 0
+InOrderAt = (d : ℕ) (A : ℕ → ℕ → ℤ) (i j : ℕ) → i + j ≤ d → getD (in-order d A) (place d i j) (pos 0) ≡ A i j
+
+-- so A(i,j) of a text's sheet is the coefficient that its terms give to (i,j), 0 where none is named
+abbrev pub TermsAre : Type 0
+TermsAre = (w : Said) (i j : ℕ) → i + j ≤ w .d → A (sheet-in w) i j ≡ coefficient-of (w .terms) i j
 
 -- ---- reading never meets 2: a well-formed text has as many coefficients as its degree asks for
 abbrev pub AsManyCoefficients : Type 0

@@ -21,16 +21,16 @@ pub byte-below : (k p q : ℕ) → p < 2 ^ k → q < 2 ^ k → q * 2 ^ k + p < 4
 byte-below k p q h i = rw (*-pow 2 2 k) (digits-lt i h)
 
 -- the entry at i of a list that is made from the numbers a, a + 1, ..
-getD-map-run : (f : ℕ → ℕ) (a n i : ℕ) → i < n → getD (map f (run a n)) i 0 ≡ f (a + i)
+pub getD-map-run : {X : Type 0} (f : ℕ → X) (x : X) (a n i : ℕ) → i < n → getD (map f (run a n)) i x ≡ f (a + i)
 unfolding run
-getD-map-run f a zero i h = absurd (omega arith)
-getD-map-run f a (suc n) zero h = ap f (sym (Nat.add-zero a))
-getD-map-run f a (suc n) (suc i) h = getD-map-run f (suc a) n i (omega arith) ∙ ap f (let e : suc a + i ≡ a + suc i = omega arith in e)
+getD-map-run f x a zero i h = absurd (omega arith)
+getD-map-run f x a (suc n) zero h = ap f (sym (Nat.add-zero a))
+getD-map-run f x a (suc n) (suc i) h = getD-map-run f x (suc a) n i (omega arith) ∙ ap f (let e : suc a + i ≡ a + suc i = omega arith in e)
 
 -- the byte at n is the colour of its finest cell
 pub raster-at : (v : Verdicts) (k n : ℕ) → n < 4 ^ k → getD (raster v k) n 0 ≡ colour v k (n % 2 ^ k) (n / 2 ^ k)
 unfolding raster span
-raster-at v k n h = getD-map-run _ 0 (4 ^ k - 0) n (rw Nat.sub-zero h) ∙ rw (Nat.zero-add n)
+raster-at v k n h = getD-map-run _ 0 0 (4 ^ k - 0) n (rw Nat.sub-zero h) ∙ rw (Nat.zero-add n)
 
 pub raster-byte : RasterByte
 raster-byte v k p q h i = raster-at v k (q * 2 ^ k + p) (byte-below k p q h i) ∙ rw (high q k h, low q k h)
