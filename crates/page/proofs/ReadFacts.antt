@@ -1,19 +1,19 @@
 -- What the page says of reading a text holds.
 use mathlib.Core.Path.{_≡_, refl, sym, _∙_, ap}
 use mathlib.Core.Bool.{Bool, true, false, _||_, cond}
-use mathlib.Core.List.{List, [], _∷_}
+use mathlib.Core.List.{List, [], _∷_, _++_}
 use Prim.Native.Nat.{ℕ, zero, suc, _+_, _^_, _≤_, _<_}
 use native.Mathlib.Omega.{arith}
 use borrow.Author.Tests.{eq-eqb, ltb-true, ltb-false, lt-ltb}
-use lib.Dec.{leb, ltb}
+use lib.Dec.{leb, ltb, eqb}
 use lib.IntN.{ℤ}
 use lib.ListN.{length, take}
 use lib.Seq.{take-all, length-take-le}
 use Rattle.page.specs.Sheet.{count}
 use Rattle.page.specs.Weight.{weight}
 use Rattle.page.specs.Refusals.{outside-range, table, first, refusal, unless}
-use Rattle.page.specs.SheetText.{Line, lines, Numbers, bad, good, line-numbers, term-of, is-admitted, coefficient-of, Said, Text, bad-line, well-formed, with-terms, with-line, line-then, term-numbers, terms-from, text-of, sheet-in, to-read, refused, accepted, outcome-of, outcome}
-use Rattle.page.specs.ReadFacts.{TermsAre, AsManyCoefficients, ReadNumber, ReadNever, number-of, rows-of, ReadTable, FirstDecide}
+use Rattle.page.specs.SheetText.{Line, ended-line, before-line, lines, Numbers, bad, good, line-numbers, term-of, is-admitted, coefficient-of, Said, Text, bad-line, well-formed, with-terms, with-line, line-then, term-numbers, terms-from, text-of, sheet-in, to-read, refused, accepted, outcome-of, outcome}
+use Rattle.page.specs.ReadFacts.{TermsAre, AsManyCoefficients, ReadNumber, ReadNever, number-of, rows-of, ReadTable, BadWithin, BadStays, LinesJoin, FirstDecide}
 use Rattle.page.proofs.Rows.{unless-ap}
 use Rattle.page.proofs.Order.{order-long, in-order-at}
 
@@ -59,43 +59,75 @@ by-rows : (m : ℕ) (w : Said) {n line : ℕ} → unless m (λ n. refused n 0) (
 by-rows zero w e = let z : _≡_ {A = ℕ} 0 1 = cc in absurd (omega arith)
 by-rows (suc m) w e = ((cc), λ z. omega arith, (cc))
 
--- a bad line is counted from 1
-data Counted : Text → Type 0 where
-  at-line : (n : ℕ) → 1 ≤ n → Counted (bad-line n)
-  at-none : (w : Said) → Counted (well-formed w)
+-- what m lines come to, and what they come to with more lines after them: a bad line is counted from 1, it is the first after the m at most, and where it is one of the m it is the bad one with more lines too
+data Counted (m : ℕ) (longer : Text) : Text → Type 0 where
+  at-line : (n : ℕ) → 1 ≤ n → n ≤ m + 1 → (n ≤ m → longer ≡ bad-line n) → Counted m longer (bad-line n)
+  at-none : (w : Said) → Counted m longer (well-formed w)
 
-counted-line : (n : ℕ) (l : Numbers) {rest : List ℤ → Text} → 1 ≤ n → ((zs : List ℤ) → Counted (rest zs)) → Counted (with-line n l rest)
-counted-line n bad h f = at-line n h
-counted-line n (good zs) h f = f zs
+-- a line of the text, and the lines left from the n-th on
+module _ (m : ℕ) (more : List Line) where
+  counted-line : (n : ℕ) (l : Numbers) {longer rest : List ℤ → Text} → 1 ≤ n → n ≤ m → ((zs : List ℤ) → Counted m (longer zs) (rest zs)) → Counted m (with-line n l longer) (with-line n l rest)
+  counted-line n bad h i f = at-line n h (omega arith) (λ _. refl)
+  counted-line n (good zs) h i f = f zs
 
-counted-then : (n letter : ℕ) (ns : List Bool) (ls : List Line) {rest : List ℤ → List Line → Text} → 1 ≤ n → ((zs : List ℤ) (ls : List Line) → Counted (rest zs ls)) → Counted (line-then n letter ns ls rest)
-counted-then n letter ns [] h f = at-line n h
-counted-then n letter ns (l ∷ ls) h f = counted-line n (line-numbers letter ns l) h (λ zs. f zs ls)
+  counted-then : (n letter : ℕ) (ns : List Bool) (ls : List Line) {rest : List ℤ → List Line → Text} → 1 ≤ n → n + length ls ≡ m + 1
+      → ((zs : List ℤ) (ls : List Line) → suc n + length ls ≡ m + 1 → Counted m (rest zs (ls ++ more)) (rest zs ls)) → Counted m (line-then n letter ns (ls ++ more) rest) (line-then n letter ns ls rest)
+  counted-then n letter ns [] h i f = at-line n h (omega arith) (λ j. absurd (omega arith))
+  counted-then n letter ns (l ∷ ls) h i f = counted-line n (line-numbers letter ns l) h (omega arith) (λ zs. f zs ls (omega arith))
 
-counted-terms : (ls : List Line) (n : ℕ) (w : Said) → 1 ≤ n → Counted (terms-from n w ls)
-unfolding terms-from
-counted-terms [] n w h = at-none w
-counted-terms (l ∷ ls) n w h = counted-line n (term-numbers l) h (λ zs. by zs (is-admitted (w .d) (w .terms) (term-of zs)) (counted-terms ls (n + 1) (with-terms w (term-of zs ∷ w .terms)) (omega arith)))
-  where
-    by : (zs : List ℤ) (b : Bool) {t : Text} → Counted t → Counted (cond b t (bad-line n))
-    by zs true k = k
-    by zs false k = at-line n h
+  counted-terms : (ls : List Line) (n : ℕ) (w : Said) → 1 ≤ n → n + length ls ≡ m + 1 → Counted m (terms-from n w (ls ++ more)) (terms-from n w ls)
+  unfolding terms-from
+  counted-terms [] n w h i = at-none w
+  counted-terms (l ∷ ls) n w h i =
+      counted-line n (term-numbers l) h (omega arith) (λ zs. by (is-admitted (w .d) (w .terms) (term-of zs)) (counted-terms ls (n + 1) (with-terms w (term-of zs ∷ w .terms)) (omega arith) (omega arith)))
+    where
+      by : (b : Bool) {longer t : Text} → Counted m longer t → Counted m (cond b longer (bad-line n)) (cond b t (bad-line n))
+      by true k = k
+      by false k = at-line n h (omega arith) (λ _. refl)
 
-counted-text : (ls : List Line) → Counted (text-of ls)
+counted-text : (ls more : List Line) → Counted (length ls) (text-of (ls ++ more)) (text-of ls)
 unfolding text-of
-counted-text ls =
-    counted-then 1 68 _ ls (omega arith) (λ d ls. counted-then 2 66 _ ls (omega arith) (λ b ls. counted-then 3 75 _ ls (omega arith) (λ k ls. counted-then 4 77 _ ls (omega arith) (λ m ls. counted-terms ls 5 _ (omega arith)))))
+counted-text ls more =
+    let m = length ls in
+    counted-then m more 1 68 _ ls (omega arith) (omega arith) (λ d ls i. counted-then m more 2 66 _ ls (omega arith) (omega arith) (λ b ls i.
+    counted-then m more 3 75 _ ls (omega arith) (omega arith) (λ k ls i. counted-then m more 4 77 _ ls (omega arith) (omega arith) (λ mode ls i. counted-terms m more ls 5 _ (omega arith) (omega arith)))))
 
-told : (long : Bool) (t : Text) → Counted t → {n line : ℕ} → cond long (refused 11 0) (outcome-of t) ≡ refused n line → ReadNumber n line
+told : (long : Bool) (t : Text) {m : ℕ} {longer : Text} → Counted m longer t → {n line : ℕ} → cond long (refused 11 0) (outcome-of t) ≡ refused n line → ReadNumber n line
 told true t c {n} {line} e = let p : n ≡ 11 = cc in let q : line ≡ 0 = cc in search arith
-told false (bad-line m) (at-line _ l) {n} {line} e = let p : n ≡ 10 = cc in let q : line ≡ m = cc in search arith
+told false (bad-line m) (at-line _ l _ _) {n} {line} e = let p : n ≡ 10 = cc in let q : line ≡ m = cc in search arith
 told false (well-formed w) (at-none _) {n} {line} e =
     let (p, o, q) = by-rows (refusal (to-read w)) w e in let (l, k) = text-rows w in
     let a : n ≡ 0 → ⊥ = λ z. o (sym p ∙ z) in let b : n ≡ 2 → ⊥ = λ z. k (sym p ∙ z) in search arith
 
 pub read-never : ReadNever
 unfolding outcome
-read-never text n line e = told (ltb 8_192 (length text)) (text-of (lines text)) (counted-text (lines text)) e
+read-never text n line e = told (ltb 8_192 (length text)) (text-of (lines text)) (counted-text (lines text) []) e
+
+-- ---- where the bad line is, and that it stays
+bad-is : {m : ℕ} {longer t : Text} → Counted m longer t → (n : ℕ) → t ≡ bad-line n → (n ≤ m + 1) × (n ≤ m → longer ≡ bad-line n)
+bad-is (at-line k _ i s) n e = let z : k ≡ n = cc in (omega arith, λ l. s (omega arith) ∙ e)
+bad-is (at-none w) n e = let z : _≡_ {A = ℕ} 0 1 = cc in absurd (omega arith)
+
+pub bad-within : BadWithin
+bad-within ls n e = bad-is (counted-text ls []) n e .0
+
+pub bad-stays : BadStays
+bad-stays ls more n e h = bad-is (counted-text ls more) n e .1 h
+
+-- ---- bytes after an LF: what stands before them has a line at least, which takes the byte before it
+joined : (text more : List ℕ) → (lines (text ++ (10 ∷ more)) ≡ lines (text ++ (10 ∷ [])) ++ lines more) × (1 ≤ length (lines (text ++ (10 ∷ []))))
+unfolding lines
+joined [] more = (refl, omega arith)
+joined (b ∷ text) more = by (eqb b 10) (lines (text ++ (10 ∷ []))) (joined text more)
+  where
+    by : (c : Bool) (ls : List Line) {longer : List Line} → (longer ≡ ls ++ lines more) × (1 ≤ length ls)
+        → let l = cond c (ended-line [] ∷ ls) (before-line b ls) in (cond c (ended-line [] ∷ longer) (before-line b longer) ≡ l ++ lines more) × (1 ≤ length l)
+    by true ls h = (ap (λ l. ended-line [] ∷ l) (h .0), omega arith)
+    by false [] h = absurd (omega arith)
+    by false (l ∷ ls) h = (ap (before-line b) (h .0), omega arith)
+
+pub lines-join : LinesJoin
+lines-join text more = joined text more .0
 
 -- ---- the first 8,193 bytes decide
 too-long : (text : List ℕ) → 8_192 < length text → outcome text ≡ refused 11 0

@@ -1,7 +1,7 @@
 -- What the page says of reading a text, as statements, each with all that it holds for. That they hold is proofs/ReadFacts and Order.
 use mathlib.Core.Path.{_≡_}
 use mathlib.Core.Bool.{true, false}
-use mathlib.Core.List.{List, [], _∷_}
+use mathlib.Core.List.{List, [], _∷_, _++_}
 use Prim.Native.Nat.{ℕ, _+_, _≤_}
 use lib.Dec.{ltb}
 use lib.IntN.{ℤ, pos}
@@ -9,7 +9,7 @@ use lib.ListN.{length, take, getD}
 use Rattle.algebra.specs.Triangle.{place}
 use Rattle.page.specs.Sheet.{count, A}
 use Rattle.page.specs.Refusals.{Row, _when_, table, first}
-use Rattle.page.specs.SheetText.{lines, coefficient-of, Said, Text, bad-line, well-formed, text-of, in-order, sheet-in, to-read, Outcome, refused, accepted, outcome}
+use Rattle.page.specs.SheetText.{Line, lines, coefficient-of, Said, Text, bad-line, well-formed, text-of, in-order, sheet-in, to-read, Outcome, refused, accepted, outcome}
 
 -- ---- the order i = 0..d and within it j = 0..d-i: what is listed in that order has A(i,j) at the place of (i,j)
 abbrev pub InOrderAt : Type 0
@@ -51,6 +51,18 @@ text-table text = (11 when ltb 8_192 (length text)) ∷ rows-of (text-of (lines 
 
 abbrev pub ReadTable : Type 0
 ReadTable = (text : List ℕ) → number-of (outcome text) ≡ first (text-table text)
+
+-- ---- the bad line is one of the text, or the first line after its end
+abbrev pub BadWithin : Type 0
+BadWithin = (ls : List Line) (n : ℕ) → text-of ls ≡ bad-line n → n ≤ length ls + 1
+
+-- and a bad line of the text stays the bad one, whatever lines come after
+abbrev pub BadStays : Type 0
+BadStays = (ls more : List Line) (n : ℕ) → text-of ls ≡ bad-line n → n ≤ length ls → text-of (ls ++ more) ≡ bad-line n
+
+-- bytes after an LF are lines of their own: they change none of those before
+abbrev pub LinesJoin : Type 0
+LinesJoin = (text more : List ℕ) → lines (text ++ (10 ∷ more)) ≡ lines (text ++ (10 ∷ [])) ++ lines more
 
 -- ---- the first 8,193 bytes decide: more of a text need not be held
 abbrev pub FirstDecide : Type 0
