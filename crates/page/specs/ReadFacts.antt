@@ -1,4 +1,4 @@
--- What the page says of reading a text, as statements, each with all that it holds for. That they hold is proofs/ReadFacts and Order.
+-- What the page says of reading a text, as statements, each with all that it holds for. That they hold is proofs/ReadFacts, Order and AnyOrder.
 use mathlib.Core.Path.{_≡_}
 use mathlib.Core.Bool.{true, false}
 use mathlib.Core.List.{List, [], _∷_, _++_}
@@ -63,6 +63,16 @@ BadStays = (ls more : List Line) (n : ℕ) → text-of ls ≡ bad-line n → n �
 -- bytes after an LF are lines of their own: they change none of those before
 abbrev pub LinesJoin : Type 0
 LinesJoin = (text more : List ℕ) → lines (text ++ (10 ∷ more)) ≡ lines (text ++ (10 ∷ [])) ++ lines more
+
+-- ---- terms may come in any order: two of them that stand side by side, after the first four lines, may be exchanged, and the text is well-formed as before, with the same sheet and mode
+pub record SameSheet (v : Said) (t : Text) : Type 0 where
+  pub said : Said
+  pub well : t ≡ well-formed said
+  pub sheet : sheet-in said ≡ sheet-in v
+  pub mode : said .mode ≡ v .mode
+
+abbrev pub AnyOrder : Type 0
+AnyOrder = (ls more : List Line) (a b : Line) (v : Said) → 4 ≤ length ls → text-of (ls ++ (a ∷ b ∷ more)) ≡ well-formed v → SameSheet v (text-of (ls ++ (b ∷ a ∷ more)))
 
 -- ---- the first 8,193 bytes decide: more of a text need not be held
 abbrev pub FirstDecide : Type 0
