@@ -1,14 +1,16 @@
 -- What the page says of its definitions holds.
 use mathlib.Core.Path.{_≡_, refl, sym, _∙_, ap}
-use mathlib.Core.Bool.{Bool, true, false}
+use mathlib.Core.Bool.{Bool, true, false, _&&_}
 use mathlib.Core.List.{List, [], _∷_, _++_, List·Memᴰ, List·Memᴰ·head, List·Memᴰ·tail, List·Memᴰ·cases-cons, List·Memᴰ·not-nil}
 use mathlib.Core.Logic.{⊎-elim}
 use Prim.Native.Nat.{ℕ, _+_, _*_, _-_, _^_, _≤_}
 use native.Mathlib.Nat as Nat
 use native.Mathlib.Omega.{arith}
-use borrow.Author.Tests.{le-ltb, lt-leb}
+use borrow.Author.Tests.{ltb-true, le-ltb, lt-leb}
+use lib.Dec.{ltb}
 use lib.IntN.{ℤ, pos, _+ℤ_, _-ℤ_, _*ℤ_, natAbs, pow}
 use Rattle.algebra.specs.Sum.{sum, _⋯_}
+use Rattle.algebra.proofs.Choice.{and-left, and-right}
 use Rattle.algebra.proofs.Integer.{*ℤ-idl, *ℤ-idr}
 use Rattle.algebra.proofs.Power.{pow-+, *ℤ-pow, pos-pow, one-powℕ}
 use Rattle.algebra.proofs.Order.{≤ℤ-trans}
@@ -26,8 +28,8 @@ use Rattle.page.specs.Sheet.{A}
 use Rattle.page.specs.Scaled.{scaled, half-side, U0, V0, value-at, f-at}
 use Rattle.page.specs.Bounds.{lower, upper}
 use Rattle.page.specs.Weight.{weight, Accepted}
-use Rattle.page.specs.Refusals.{Row, first, refusal, to-check}
-use Rattle.page.specs.Facts.{ScalesF, AtWhole, SameFraction, BoundsInOrder, SharedEdges, Expands, AtMost45, AcceptedByCheck, GivenBy, GivenExactly}
+use Rattle.page.specs.Refusals.{Row, table, first, refusal, to-check}
+use Rattle.page.specs.Facts.{ScalesF, AtWhole, SameFraction, BoundsInOrder, SharedEdges, Expands, AtMost45, AcceptedByCheck, GivenBy, GivenExactly, NoneGiven}
 use Rattle.page.proofs.Rows.{check-rows, check-passed, range-0, outside-size, rest}
 use Rattle.page.proofs.Demand3.{contained}
 use Rattle.page.proofs.Page.{polynomial, centre, F-is, G-is, value-is}
@@ -132,3 +134,27 @@ found n (r ∷ rs) h e = after-row n r rs (r .holds) refl e (found n rs h)
 
 pub given-exactly : GivenExactly
 given-exactly rows n h = (found n rows h, λ g. ap first (g .split) ∙ past (g .before) (g .row) (g .after) (g .nothing-before) (g .holds) ∙ g .number)
+
+-- ---- and 0 exactly when no row holds, since every row of the table has a number
+abbrev numbered : List Row → Bool
+numbered [] = true
+numbered (r ∷ rs) = ltb 0 (r .number) && numbered rs
+
+missed : (r : Row) (rs : List Row) (b : Bool) → r .holds ≡ b → ltb 0 (r .number) ≡ true → first (r ∷ rs) ≡ 0 → r .holds ≡ false
+missed r rs true w n e = let z : r .number ≡ 0 = sym (taken r rs w) ∙ e in let l = ltb-true 0 (r .number) n in absurd (omega arith)
+missed r rs false w n e = w
+
+none-holds : (rows : List Row) → numbered rows ≡ true → first rows ≡ 0 → (r : Row) → List·Memᴰ r rows → r .holds ≡ false
+none-holds [] n e r m = absurd (List·Memᴰ·not-nil m)
+none-holds (x ∷ xs) n e r m =
+    let w = missed x xs (x .holds) refl (and-left (ltb 0 (x .number)) (numbered xs) n) e in
+    ⊎-elim (λ q. ap (λ x. x .holds) q ∙ w) (none-holds xs (and-right (ltb 0 (x .number)) (numbered xs) n) (sym (skipped x xs w) ∙ e) r) (List·Memᴰ·cases-cons m)
+
+all-skipped : (rows : List Row) → ((r : Row) → List·Memᴰ r rows → r .holds ≡ false) → first rows ≡ 0
+unfolding first
+all-skipped [] h = refl
+all-skipped (r ∷ rs) h = skipped r rs (h r (List·Memᴰ·head refl)) ∙ all-skipped rs (λ b m. h b (List·Memᴰ·tail m))
+
+pub none-given : NoneGiven
+unfolding table
+none-given c = (none-holds (table c) refl, all-skipped (table c))

@@ -13,7 +13,7 @@ use Rattle.page.specs.Scaled.{F, half-side, U0, V0, InCell, value-at, f-
 use Rattle.page.specs.LocalForm.{G}
 use Rattle.page.specs.Bounds.{lower, upper}
 use Rattle.page.specs.Weight.{Accepted}
-use Rattle.page.specs.Refusals.{misplaced, point, Row, first, refusal, to-check}
+use Rattle.page.specs.Refusals.{Input, misplaced, point, Row, table, first, refusal, to-check}
 
 -- F(U, V) = 2^((k+1)d) · f(x, y), with U = 2^(k+1)·x and V = 2^(k+1)·y, at every fractional x = M/Q and y = N/Q; and at whole numbers the value is F
 abbrev pub ScalesF : Type 0
@@ -69,3 +69,7 @@ pub record GivenBy (rows : List Row) (n : ℕ) : Type 0 where
 
 abbrev pub GivenExactly : Type 0
 GivenExactly = (rows : List Row) (n : ℕ) → (n ≡ 0 → ⊥) → (first rows ≡ n) ↔ GivenBy rows n
+
+-- and the number is 0 exactly where no row's condition holds
+abbrev pub NoneGiven : Type 0
+NoneGiven = (c : Input) → (refusal c ≡ 0) ↔ ((r : Row) → List·Memᴰ r (table c) → r .holds ≡ false)
