@@ -14,7 +14,7 @@ use Rattle.page.specs.Weight.{weight}
 use Rattle.page.specs.Refusals.{outside-range, table, first, refusal, unless}
 use Rattle.page.specs.SheetText.{Line, ended-line, before-line, lines, Numbers, bad, good, line-numbers, term-of, is-admitted, coefficient-of, Said, Text, bad-line, well-formed, with-terms, with-line, line-then, term-numbers, terms-from, text-of, sheet-in, to-read, refused, accepted, outcome-of, outcome}
 use Rattle.page.specs.ReadFacts.{TermsAre, AsManyCoefficients, ReadNumber, ReadNever, number-of, rows-of, ReadTable, BadWithin, BadStays, LinesJoin, FirstDecide}
-use Rattle.page.proofs.Rows.{unless-ap}
+use Rattle.page.proofs.Rows.{unless-number}
 use Rattle.page.proofs.Order.{order-long, in-order-at}
 
 pub terms-are : TermsAre
@@ -24,15 +24,11 @@ pub as-many-coefficients : AsManyCoefficients
 as-many-coefficients w = order-long (w .d) (coefficient-of (w .terms))
 
 -- ---- the first row that holds
-itself : (n : ℕ) → unless n (λ m. m) 0 ≡ n
-itself zero = refl
-itself (suc n) = refl
-
 in-table : (long : Bool) (t : Text) → number-of (cond long (refused 11 0) (outcome-of t)) ≡ cond long 11 (first (rows-of t))
 unfolding first
 in-table true t = refl
 in-table false (bad-line n) = refl
-in-table false (well-formed w) = unless-ap number-of (refusal (to-read w)) (λ n. refused n 0) (accepted w) ∙ itself (refusal (to-read w))
+in-table false (well-formed w) = unless-number number-of (refusal (to-read w)) (λ n. refl) refl refl
 
 pub read-table : ReadTable
 unfolding outcome first

@@ -224,7 +224,7 @@ pub unless-ap : {X Y : Type 0} (f : X → Y) (n : ℕ) (r : ℕ → X) (v : X) �
 unless-ap f zero r v = refl
 unless-ap f (suc n) r v = refl
 
--- the number of it is the refusal's
-pub unless-same : (n : ℕ) → unless n (λ m. m) 0 ≡ n
-unless-same zero = refl
-unless-same (suc n) = refl
+-- where a refusal states its own number and the values state 0, an answer states n
+pub unless-number : {X : Type 0} (number : X → ℕ) (n : ℕ) {r : ℕ → X} {v x : X} → ((m : ℕ) → number (r m) ≡ m) → number v ≡ 0 → x ≡ unless n r v → number x ≡ n
+unless-number number zero p q e = ap number e ∙ q
+unless-number number (suc n) p q e = ap number e ∙ p (suc n)

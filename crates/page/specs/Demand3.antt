@@ -4,7 +4,7 @@ use Prim.Native.Nat.{ℕ, _+_, _*_, _^_, _≤_, _<_}
 use lib.IntN.{ℤ, pos, _+ℤ_, _-ℤ_, _*ℤ_, natAbs}
 use lib.Signed.{_≤ℤ_, _<ℤ_}
 use Rattle.forms.specs.Bounds.{Mode}
-use Rattle.forms.specs.Plane.{AtCorners}
+pub use Rattle.forms.specs.Plane.{AtCorners}
 use Rattle.verdicts.specs.declared.Verdict.the-variants.{Above, Below, Open}
 use Rattle.page.specs.Sheet.{Sheet}
 use Rattle.page.specs.Scaled.{F, IsCell, half-side, U0, V0, InCell, value-at, MeetsCurve}

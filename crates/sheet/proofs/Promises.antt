@@ -13,8 +13,8 @@ use Rattle.sheet.specs.declared.Bounded.the-variants.{Cell}
 use Rattle.page.specs.Sheet.{Sheet, mode-of}
 use Rattle.page.specs.Bounds.{lower, upper, bend}
 use Rattle.page.specs.Refusals.{refusal, unless, to-check, at-point, in-cell}
-use Rattle.page.proofs.Rows.{unless-ap, unless-same}
-use Rattle.sheet.specs.Answers.{checked, Weighed, states-weight, weighed, valued, states-value, evaluated, bounded, states-bounds, measured}
+use Rattle.page.proofs.Rows.{unless-ap}
+use Rattle.sheet.specs.Answers.{checked, states-weight, weighed, valued, states-value, evaluated, bounded, states-bounds, measured}
 use Rattle.sheet.specs.Promises.{CheckPromise, ValuePromise, BoundsPromise, OneCheck, OneValue, OneBounds}
 
 -- ---- what each call's answer states
@@ -61,8 +61,3 @@ value-unique S u v r t p q = p .0 ∙ sym (q .0)
 
 pub bounds-unique : OneBounds
 bounds-unique S mode j p q r t x y = x .0 ∙ sym (y .0)
-
--- ---- the number that an answer states is the table's
-pub check-number : (S : Sheet) {r : Checked} → CheckPromise S r → states-weight r .number ≡ refusal (to-check S)
-unfolding weighed
-check-number S p = ap (λ w. w .number) (p .1) ∙ unless-ap (λ (w : Weighed). w .number) (refusal (to-check S)) _ _ ∙ unless-same (refusal (to-check S))

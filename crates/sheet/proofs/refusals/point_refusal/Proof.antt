@@ -7,7 +7,7 @@ use Rattle.page.specs.Sheet.{Sheet, sheet-of, InRange}
 use Rattle.page.specs.Refusals.{misplaced, point, refusal, to-check, at-point}
 use Rattle.page.proofs.Rows.{point-rows, check-passed, stays, rest}
 use Rattle.sheet.specs.Promises.{CheckPromise}
-use Rattle.sheet.proofs.Promises.{check-number}
+use Rattle.sheet.proofs.Facts.{check-number}
 use Rattle.sheet.proofs.refusals.point_refusal.Statement.{statement}
 use Rattle.sheet.proofs.refusals.point_refusal.Tie as tie
 
@@ -20,7 +20,7 @@ checks : (c : tie.After-check) → CheckPromise (sheet (c .before)) (c .check .r
 checks c = let s = c .before in rw (toZ-ofZ (s .fits .x), toZ-ofZ (s .fits .y)) at (c .check .ensures)
 
 first-is : (c : tie.After-number-of) → c .number-of .result ≡ refusal (to-check (sheet (c .before .before)))
-first-is c = c .number-of .ensures ∙ check-number (sheet (c .before .before)) (checks (c .before))
+first-is c = c .number-of .ensures ∙ check-number (sheet (c .before .before)) _ (checks (c .before))
 
 none : (c : tie.Else1) → refusal (to-check (sheet (c .before .before .before))) ≡ 0
 none c = sym (first-is (c .before)) ∙ c .if1 .left
