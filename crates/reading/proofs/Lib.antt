@@ -4,4 +4,5 @@ pub mod Tables
 pub mod Heads
 pub mod Naming
 pub mod Promises
+pub mod Facts
 pub mod Samples

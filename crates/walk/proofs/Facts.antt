@@ -1,4 +1,4 @@
--- What the promises say of the places that a call leaves.
+-- What the promises say of an answer and of the place that a call leaves.
 use mathlib.Core.Path.{_≡_, refl, sym, _∙_, ap}
 use mathlib.Core.List.{List, _++_}
 use Prim.Native.Nat.{ℕ, _+_, _*_, _^_, _≤_}
@@ -12,11 +12,28 @@ use Rattle.verdicts.proofs.Bytes.{byte-below, raster-byte}
 use Rattle.verdicts.proofs.Records.{same-story}
 use Rattle.page.specs.Sheet.{Sheet, mode-of}
 use Rattle.page.specs.Refusals.{refusal, to-walk}
-use Rattle.page.proofs.Rows.{unless-none, unless-refused, walk-passed}
+use Rattle.page.proofs.Rows.{unless-none, unless-refused, unless-number, walk-passed}
 use Rattle.page.proofs.Raster.{white-signed, coloured-meets}
-use Rattle.walk.specs.Answers.{verdicts, rastered, recorded, states-listing, enumerated}
-use Rattle.walk.specs.Facts.{PrintedByte, PrintedSigned, PrintedMeets, WrittenRecords, RefusedUnchanged, LaterUnchanged}
+use Rattle.walk.specs.Answers.{verdicts, rastered, recorded, Reckoned, reckoned, states-listing, Enumerated, enumerated}
+use Rattle.walk.specs.Facts.{RasterNumber, ListingNumber, RasterZeros, ListingZeros, PrintedByte, PrintedSigned, PrintedMeets, WrittenRecords, RefusedUnchanged, LaterUnchanged}
 use Rattle.walk.proofs.Whole.{over-length, over-later}
+
+-- ---- the number, and zeros beside it
+pub raster-number : RasterNumber
+unfolding reckoned
+raster-number S mode old r now h = unless-number (λ (x : Reckoned). x .number) (refusal (to-walk S mode (length old))) (λ n. refl) refl (h .1)
+
+pub listing-number : ListingNumber
+unfolding enumerated
+listing-number S mode old r now h = unless-number (λ (x : Enumerated). x .number) (refusal (to-walk S mode (length old))) (λ n. refl) refl (h .1)
+
+pub raster-zeros : RasterZeros
+unfolding reckoned
+raster-zeros S mode old r now h n = h .1 ∙ sym (unless-refused _ _ _ n)
+
+pub listing-zeros : ListingZeros
+unfolding enumerated
+listing-zeros S mode old r now h n = h .1 ∙ sym (unless-refused _ _ _ n)
 
 -- ---- the places where nothing is refused
 module _ (S : Sheet) (mode : ℕ) (old : List ℕ) (e : refusal (to-walk S mode (length old)) ≡ 0) where

@@ -1,4 +1,4 @@
--- What the promises of the calls that walk say of the places that a call leaves, for every outcome that satisfies them. That they hold is proofs/Facts.
+-- What the promises of the calls that walk say of an answer and of the place that a call leaves, for every outcome that satisfies them. That they hold is proofs/Facts.
 use mathlib.Core.Path.{_≡_}
 use mathlib.Core.List.{List}
 use Prim.Native.Nat.{ℕ, _+_, _*_, _^_, _≤_, _<_}
@@ -13,8 +13,24 @@ use Rattle.page.specs.Bounds.{bend}
 use Rattle.page.specs.Refusals.{refusal, to-walk}
 use Rattle.walk.specs.declared.Tallied.{Tallied}
 use Rattle.walk.specs.declared.Listed.{Listed}
-use Rattle.walk.specs.Answers.{verdicts, states-listing}
+use Rattle.walk.specs.Answers.{verdicts, states-tally, states-listing}
 use Rattle.walk.specs.Promises.{RasterPromise, ListingPromise}
+
+-- ---- the number that an answer states is the table's
+abbrev pub RasterNumber : Type 0
+RasterNumber = (S : Sheet) (mode : ℕ) (old : List ℕ) (r : Tallied) (now : List ℕ) → RasterPromise S mode old r now → states-tally r .number ≡ refusal (to-walk S mode (length old))
+
+abbrev pub ListingNumber : Type 0
+ListingNumber = (S : Sheet) (mode : ℕ) (old : List ℕ) (r : Listed) (now : List ℕ) → ListingPromise S mode old r now → states-listing r .number ≡ refusal (to-walk S mode (length old))
+
+-- ---- where it is not 0, zeros stand beside it: every other number that the answer states is 0
+abbrev pub RasterZeros : Type 0
+RasterZeros = (S : Sheet) (mode : ℕ) (old : List ℕ) (r : Tallied) (now : List ℕ) → RasterPromise S mode old r now → (refusal (to-walk S mode (length old)) ≡ 0 → ⊥) →
+    states-tally r ≡ record { number = refusal (to-walk S mode (length old)); visited = 0; coloured = 0 }
+
+abbrev pub ListingZeros : Type 0
+ListingZeros = (S : Sheet) (mode : ℕ) (old : List ℕ) (r : Listed) (now : List ℕ) → ListingPromise S mode old r now → (refusal (to-walk S mode (length old)) ≡ 0 → ⊥) →
+    states-listing r ≡ record { number = refusal (to-walk S mode (length old)); length = 0; visited = 0; coloured = 0 }
 
 -- ---- the bytes that `raster` leaves where nothing is refused: the one at q·2^k + p is for the finest cell at column p, row q
 -- it is the raster's byte, the colour of the cell
