@@ -26,20 +26,20 @@ abbrev sheet : ℕ → List ℤ → ℤ → ℕ → ℕ → Sheet
 sheet d A X s k = record { d = d; coefficients = A; X = X; Y = X; s = s; k = k }
 
 -- 8x² + 1, x - y, xy, x²
-abbrev P1 : Sheet
+abbrev pub P1 : Sheet
 P1 = sheet 2 (pos 1 ∷ pos 0 ∷ pos 0 ∷ pos 0 ∷ pos 0 ∷ pos 8 ∷ []) (negsuc 0) 1 1
 
-abbrev P4 : ℕ → Sheet
+abbrev pub P4 : ℕ → Sheet
 P4 k = sheet 1 (pos 0 ∷ negsuc 0 ∷ pos 1 ∷ []) (pos 0) 0 k
 
 abbrev P8 : Sheet
 P8 = sheet 2 (pos 0 ∷ pos 0 ∷ pos 0 ∷ pos 0 ∷ pos 1 ∷ pos 0 ∷ []) (negsuc 0) 1 0
 
-abbrev P9 : Sheet
+abbrev pub P9 : Sheet
 P9 = sheet 2 (pos 0 ∷ pos 0 ∷ pos 0 ∷ pos 0 ∷ pos 0 ∷ pos 1 ∷ []) (pos 0) 0 0
 
 -- one coefficient at a place of 45, and zeros
-abbrev constant : ℤ → ℕ → ℕ → Sheet
+abbrev pub constant : ℤ → ℕ → ℕ → Sheet
 constant c d k = sheet d (c ∷ replicate 44 (pos 0)) (pos 0) 0 k
 
 -- ---- scaled numbers
