@@ -14,8 +14,9 @@ use Rattle.page.specs.Sheet.{Sheet, mode-of}
 use Rattle.page.specs.Refusals.{refusal, to-walk}
 use Rattle.page.proofs.Rows.{unless-none, unless-refused, unless-number, walk-passed}
 use Rattle.page.proofs.Raster.{white-signed, coloured-meets}
+use Rattle.page.proofs.Cover.{curve-covered}
 use Rattle.walk.specs.Answers.{verdicts, rastered, recorded, Reckoned, reckoned, states-listing, Enumerated, enumerated}
-use Rattle.walk.specs.Facts.{RasterNumber, ListingNumber, RasterZeros, ListingZeros, PrintedByte, PrintedSigned, PrintedMeets, WrittenRecords, RefusedUnchanged, LaterUnchanged}
+use Rattle.walk.specs.Facts.{RasterNumber, ListingNumber, RasterZeros, ListingZeros, PrintedByte, PrintedSigned, PrintedMeets, PrintedCurve, WrittenRecords, RefusedUnchanged, LaterUnchanged}
 use Rattle.walk.proofs.Whole.{over-length, over-later}
 
 -- ---- the number, and zeros beside it
@@ -65,6 +66,11 @@ printed-signed S mode old r now h e p q a b = rw (printed-byte S mode old r now 
 
 pub printed-meets : PrintedMeets
 printed-meets S mode old r now h e p q a b = rw (printed-byte S mode old r now h e p q a b) (coloured-meets S (mode-of mode) p q)
+
+pub printed-curve : PrintedCurve
+printed-curve S mode old r now h e M N Q o i z =
+    let (c, one) = curve-covered S (mode-of mode) M N Q o i z in
+    (c, printed-byte S mode old r now h e (c .column) (c .row) (c .is-cell .column) (c .is-cell .row) ∙ one)
 
 -- ---- the records
 pub written-records : WrittenRecords

@@ -10,6 +10,7 @@ use Rattle.verdicts.specs.Facts.{unfolded}
 use Rattle.page.specs.Sheet.{Sheet}
 use Rattle.page.specs.Scaled.{InCell, value-at, MeetsCurve}
 use Rattle.page.specs.Bounds.{bend}
+use Rattle.page.specs.Cover.{Holder}
 use Rattle.page.specs.Refusals.{refusal, to-walk}
 use Rattle.walk.specs.declared.Tallied.{Tallied}
 use Rattle.walk.specs.declared.Listed.{Listed}
@@ -48,6 +49,11 @@ PrintedSigned = (S : Sheet) (mode : ℕ) (old : List ℕ) (r : Tallied) (now : L
 abbrev pub PrintedMeets : Type 0
 PrintedMeets = (S : Sheet) (mode : ℕ) (old : List ℕ) (r : Tallied) (now : List ℕ) → RasterPromise S mode old r now → refusal (to-walk S mode (length old)) ≡ 0 →
     (p q : ℕ) → p < 2 ^ S .k → q < 2 ^ S .k → getD now (q * 2 ^ S .k + p) 0 ≡ 1 → bend S (S .k) p q ≡ 0 → MeetsCurve S (S .k) p q
+
+-- every point of the curve in the square lies in a finest cell of which the byte is 1
+abbrev pub PrintedCurve : Type 0
+PrintedCurve = (S : Sheet) (mode : ℕ) (old : List ℕ) (r : Tallied) (now : List ℕ) → RasterPromise S mode old r now → refusal (to-walk S mode (length old)) ≡ 0 →
+    (M N : ℤ) (Q : ℕ) → 1 ≤ Q → InCell S 0 0 0 M N Q → value-at S M N Q ≡ pos 0 → (h : Holder S (S .k) M N Q) × (getD now (h .row * 2 ^ S .k + h .column) 0 ≡ 1)
 
 -- ---- the records that `listing` leaves where nothing is refused: as many as it answers, they unfold to the raster
 abbrev pub WrittenRecords : Type 0
