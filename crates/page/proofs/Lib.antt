@@ -10,6 +10,7 @@ pub mod Cover
 pub mod Facts
 pub mod ReadFacts
 pub mod AnyOrder
+pub mod Given
 pub mod Edges
 pub mod Decimals
 pub mod Samples

@@ -1,4 +1,4 @@
--- What the page says of reading a text, as statements, each with all that it holds for. That they hold is proofs/ReadFacts, Order and AnyOrder.
+-- What the page says of reading a text, as statements, each with all that it holds for. That they hold is proofs/ReadFacts, Order, Given and AnyOrder.
 use mathlib.Core.Path.{_≡_}
 use mathlib.Core.Bool.{true, false}
 use mathlib.Core.List.{List, [], _∷_, _++_}
@@ -9,7 +9,7 @@ use lib.ListN.{length, take, getD}
 use Rattle.algebra.specs.Triangle.{place}
 use Rattle.page.specs.Sheet.{count, A}
 use Rattle.page.specs.Refusals.{Row, _when_, table, first}
-use Rattle.page.specs.SheetText.{Line, lines, coefficient-of, Said, Text, bad-line, well-formed, text-of, in-order, sheet-in, to-read, Outcome, refused, accepted, outcome}
+use Rattle.page.specs.SheetText.{Line, lines, good, number-at, whole-at, term-numbers, coefficient-of, Said, Text, bad-line, well-formed, text-of, in-order, sheet-in, to-read, Outcome, refused, accepted, outcome}
 
 -- ---- the order i = 0..d and within it j = 0..d-i: what is listed in that order has A(i,j) at the place of (i,j)
 abbrev pub InOrderAt : Type 0
@@ -18,6 +18,11 @@ InOrderAt = (d : ℕ) (A : ℕ → ℕ → ℤ) (i j : ℕ) → i + j ≤ d → 
 -- so A(i,j) of a text's sheet is the coefficient that its terms give to (i,j), 0 where none is named
 abbrev pub TermsAre : Type 0
 TermsAre = (w : Said) (i j : ℕ) → i + j ≤ w .d → A (sheet-in w) i j ≡ coefficient-of (w .terms) i j
+
+-- a line `T` i j coefficient, after the first four, gives A(i,j)
+abbrev pub TermGiven : Type 0
+TermGiven = (ls more : List Line) (l : Line) (zs : List ℤ) (v : Said) → 4 ≤ length ls → term-numbers l ≡ good zs → text-of (ls ++ (l ∷ more)) ≡ well-formed v →
+    A (sheet-in v) (whole-at zs 0) (whole-at zs 1) ≡ number-at zs 2
 
 -- ---- reading never meets 2: a well-formed text has as many coefficients as its degree asks for
 abbrev pub AsManyCoefficients : Type 0
