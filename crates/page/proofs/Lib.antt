@@ -10,8 +10,8 @@ pub mod Cover
 pub mod Facts
 pub mod ReadFacts
 pub mod AnyOrder
-pub mod Given
 pub mod Edges
 pub mod Decimals
 pub mod Samples
 pub mod TextSamples
+pub mod TextTerms

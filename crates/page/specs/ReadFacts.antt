@@ -1,4 +1,4 @@
--- What the page says of reading a text, as statements, each with all that it holds for. That they hold is proofs/ReadFacts, Order, Given and AnyOrder.
+-- What the page says of reading a text, as statements, each with all that it holds for. That they hold is proofs/ReadFacts, Order, TextTerms and AnyOrder.
 use mathlib.Core.Path.{_≡_}
 use mathlib.Core.Bool.{true, false}
 use mathlib.Core.List.{List, [], _∷_, _++_}

@@ -1,6 +1,6 @@
 -- The coefficient that a term gives is the one that the sheet has.
 use mathlib.Core.Path.{_≡_, refl, sym, _∙_, ap}
-use mathlib.Core.Bool.{Bool, true, false, not, _&&_, cond, false≢true}
+use mathlib.Core.Bool.{Bool, true, false, not, _&&_, cond, and-false, false≢true}
 use mathlib.Core.List.{List, [], _∷_, _++_}
 use Prim.Native.Nat.{ℕ, _+_, _≤_, _<_}
 use native.Mathlib.Omega.{arith}
@@ -44,8 +44,7 @@ module _ (i j : ℕ) (c : ℤ) where
       by true e =
           let x : t .i ≡ i = eqb-true (t .i) i (and-left (eqb (t .i) i) (eqb (t .j) j) e) in
           let y : t .j ≡ j = eqb-true (t .j) j (and-right (eqb (t .i) i) (eqb (t .j) j) e) in
-          let z = and-right (leb (t .i + t .j) d && leb (t .i) 8 && leb (t .j) 8) (not (is-named (t .i) (t .j) ts)) a in
-          absurd (false≢true (rw (x, y, n) at z))
+          absurd (false≢true (rw and-false at (rw (x, y, n) at a)))
       by false e = e
 
   next-names : (w : Said) (t : Term) → Names w → is-admitted (w .d) (w .terms) t ≡ true → Names (with-terms w (t ∷ w .terms))
