@@ -24,7 +24,8 @@ pub reading-zeros : ReadingZeros
 unfolding reading
 reading-zeros text r h = rw h (by (outcome text))
   where
-    by : (o : Outcome) → let r : Reading = reading-of o in (r .refusal ≡ 0 → ⊥) → r ≡ record { refusal = r .refusal; line = r .line; d = 0; x = pos 0; y = pos 0; s = 0; k = 0; mode = 0; coefficients = replicate 45 (pos 0) }
+    by : (o : Outcome) → let r : Reading = reading-of o in (r .refusal ≡ 0 → ⊥) →
+        r ≡ record { refusal = r .refusal; line = r .line; d = 0; x = pos 0; y = pos 0; s = 0; k = 0; mode = 0; coefficients = replicate 45 (pos 0) }
     by (refused n line) z = refl
     by (accepted w) z = absurd (z refl)
 
