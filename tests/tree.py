@@ -5,7 +5,7 @@
 - Where a table of the first two has the columns 'statement' and 'theorem', the statement is closed, and the theorem is declared with
   just that statement as its type, brought in from the file of specs/. Every other statement of such a file has its row too.
 - docs/PAGE.md has in each row a sentence, a definition, and what stands behind it: something that is named.
-- Every file of a crate that a document names stands in the tree.
+- Every file of a crate that a document names stands in the tree, and docs/DESIGN.md names each file of src/, specs/ and proofs/.
 - No axiom and no hole stands in a crate. No definition and no contract brings in anything of a folder proofs/.
 - No file of a crate is over 400 lines, and none brings in a name that it does not use.
 - A public call, a `pub fn` at the root of a crate that the outside calls, has no `requires` and one `ensures`, which is a promise of
@@ -82,6 +82,31 @@ def mentions():
         for file in re.findall(r"`((?:crates|tests|docs|\.ci)/[^`*{ ]+)`", page.read_text()):
             if not (ROOT / file).exists():
                 yield f"{page.relative_to(ROOT)} names {file}, which is not in the tree"
+
+
+def drawn():
+    """The files that the tables of docs/DESIGN.md name: crate, folder, file. A name goes on from the one before it: `lines/proofs/Parting`, `Counting`."""
+    crates = {path.name for path in ROOT.glob("crates/*")}
+    for line in document("DESIGN.md").splitlines():
+        if line.startswith("## "):
+            crate, folder = next((name for name in re.findall(r"`(\w+)`", line) if name in crates), None), None
+        for name in re.findall(r"`([^`]+)`", line.split("|")[1]) if line.startswith("| `") else ():
+            *home, file = name.split("/")
+            if home and home[0] in crates:
+                crate, *home = home
+            folder = home[0] if home else folder
+            yield crate, folder, file.removesuffix(".rt")
+
+
+def the_map():
+    files = {(path.parent.parent.name, path.parent.name, path.stem) for path in sources() if len(path.relative_to(ROOT).parts) == 4}
+    found = set(drawn())
+    for crate, folder, file in sorted(files - found):
+        # a folder may be named as a whole, and what a file lib or Lib holds is told by its crate
+        if file.lower() != "lib" and (crate, folder, "") not in found:
+            yield f"docs/DESIGN.md does not name {file} of crates/{crate}/{folder}"
+    for crate, folder, file in sorted(name for name in found - files if name[1] and name[2]):
+        yield f"docs/DESIGN.md names {file} of crates/{crate}/{folder}, which is not there"
 
 
 def axioms_and_holes():
@@ -243,7 +268,7 @@ def places():
 
 
 def main():
-    faults = [fault for check in (citations, statements, edits, sentences, mentions, axioms_and_holes, definitions_alone, contracts, lengths, imports, places) for fault in check()]
+    faults = [fault for check in (citations, statements, edits, sentences, mentions, the_map, axioms_and_holes, definitions_alone, contracts, lengths, imports, places) for fault in check()]
     for fault in faults:
         print(fault)
     print(f"tree: {len(faults)} faults in {len(sources())} source files")
