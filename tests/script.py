@@ -42,26 +42,40 @@ PICTURE = f"""\
 
 {LEGEND}
 """
+# what is said of bytes above 127
+BEYOND = "    Among them are some beyond plain text: a long minus, a no-break blank, or a mark that an editor set before the text.\n"
 # a text, and what is said of it
 REFUSALS = [
     (written("D 9", *START[1:]), "refused by 1: the degree d is above 8"),
     (written("D 1", "B 0 0 0", "K 8", "M 0"), "refused by 3: the depth k is above 7"),
     (written("D 1", "B 0 -1048577 0", "K 1", "M 0"), "refused by 4: the corner X or Y is outside -1,048,576 to 1,048,576, or s is above 10"),
     (written("D 1", "B 0 0 0", "K 1", "M 2"), "refused by 5: the mode is neither 0 nor 1"),
-    (written("D 8", "B 0 0 0", "K 7", "M 0", "T 0 0 1"), "refused by 6: the weight is 2^62 or more"),
+    (written("D 8", "B 0 0 0", "K 7", "M 0", "T 0 0 1"), "refused by 6: the weight is 2^62 or more, and 64 bits might not hold every number: a degree d no "
+     "larger than the terms need, a smaller depth"),
     (b"", "refused by 10: line 1 is missing: the text ends before it\n    It should hold: D<tab>d\n"),
     (written(*START[:2]), "refused by 10: line 3 is missing: the text ends before it\n    It should hold: K<tab>k\n"),
     (WHOLE[:-1], "refused by 10: line 6 is bad, and no line end follows it: T\\t1\\t0\\t1\n    In it \\t is a tab.\n"
      "    It should hold: T<tab>i<tab>j<tab>coefficient\n"),
     (WHOLE + b"\n", "refused by 10: line 7 is bad: (empty)\n    It should hold: T<tab>i<tab>j<tab>coefficient\n"),
     (WHOLE.replace(b"B\t0", b"B\x1b[7m\xff 0\r"), "refused by 10: line 2 is bad: B\\x1b[7m\\xff 0\\r\\t0\\t0\n"
-     "    In it \\t is a tab and \\r is a carriage return.\n    It should hold: B<tab>X<tab>Y<tab>s\n"),
+     "    In it \\t is a tab and \\r is a carriage return.\n"
+     "    It has blanks, and only tabs part fields. This exchanges them: tr -s ' ' '\\t' < old.sheet > new.sheet\n"
+     f"    No sheet holds such signs: \\x1b[m\\xff\n{BEYOND}    It should hold: B<tab>X<tab>Y<tab>s\n"),
     (WHOLE.replace(b"\n", b"\r\n"), "refused by 10: line 1 is bad: D\\t1\\r\n    In it \\t is a tab and \\r is a carriage return.\n"
-     "    Editors on Windows end lines with a carriage return. This takes them out: tr -d '\\r' < draft > my.sheet\n    It should hold: D<tab>d\n"),
+     "    Editors on Windows end lines with a carriage return. This takes them out: tr -d '\\r' < old.sheet > new.sheet\n    It should hold: D<tab>d\n"),
+    (WHOLE.replace(b"\n", b"\r"), "refused by 10: line 1 is bad, and no line end follows it: " + repr(WHOLE.replace(b"\n", b"\r"))[2:-1] + "\n"
+     "    In it \\t is a tab and \\r is a carriage return.\n    It should hold: D<tab>d\n"),
     (WHOLE.replace(b"\t", b" "), "refused by 10: line 1 is bad: D 1\n"
-     "    It has blanks in place of tabs. This exchanges them: tr ' ' '\\t' < draft > my.sheet\n    It should hold: D<tab>d\n"
-     "    One tab parts the fields, and a line end follows each line. A number has no plus and no zero before it.\n"
+     "    It has blanks, and only tabs part fields. This exchanges them: tr -s ' ' '\\t' < old.sheet > new.sheet\n    It should hold: D<tab>d\n"
+     "    One tab parts the fields, and a line end follows each line. A number is whole, with no plus and no zero before it.\n"
      "    It is from -2,147,483,648 to 2,147,483,647, and only X, Y and a coefficient may be negative.\n"),
+    (written(*START) + b"T\t0\t0\t1 \n", "refused by 10: line 5 is bad: T\\t0\\t0\\t1 \n    In it \\t is a tab.\n"
+     "    A blank or a tab stands before the first field or after the last one, where none belongs.\n    It should hold: T<tab>i<tab>j<tab>coefficient\n"),
+    (written(*START, "T 0 0 -36.5"), "refused by 10: line 5 is bad: T\\t0\\t0\\t-36.5\n    In it \\t is a tab.\n    No sheet holds such signs: .\n"
+     "    It should hold: T<tab>i<tab>j<tab>coefficient\n"),
+    (WHOLE.lower(), "refused by 10: line 1 is bad: d\\t1\n    In it \\t is a tab.\n    No sheet holds such signs: d\n    It should hold: D<tab>d\n"),
+    (b"\xef\xbb\xbf" + WHOLE, "refused by 10: line 1 is bad: \\xef\\xbb\\xbfD\\t1\n    In it \\t is a tab.\n"
+     f"    No sheet holds such signs: \\xef\\xbb\\xbf\n{BEYOND}    It should hold: D<tab>d\n"),
     (written(*START, "T 0 0 " + "9" * 5000), "refused by 10: line 5 is bad: T\\t0\\t0\\t" + "9" * 51 + "... (5,006 bytes)\n"),
     (b"\n" * 8193, "refused by 11: the text is longer than 8,192 bytes"),
     (b"x" * 100_000, "refused by 11: the text is longer than 8,192 bytes"),
