@@ -127,9 +127,12 @@ def command_checks():
         status, out, _ = run(file, env={**os.environ, "PYTHONIOENCODING": "ascii"})
         yield "a name that plain signs do not show", status == 0 and out.isascii() and rb"\xe9" in out
     known = [name + ".sheet" for name in sheets.names()]
-    for status, words in ((0, ["--help"]), (2, [])):
-        ended, out, _ = run(*words)
-        yield "the usage", ended == status and all(name in out.decode() for name in ["./sheet", "FILE", "--list", *known, *ENDS_WITH_2])
+    usage = ["./sheet", "FILE", "--list", *known, *ENDS_WITH_2]
+    status, out, err = run("--help")
+    yield "the usage", (status, err) == (0, "") and all(name in out.decode() for name in usage)
+    for words in ([], ["--list"]):
+        status, out, err = run(*words)
+        yield "no file", (status, out) == (2, b"") and all(name in err for name in usage) and err.endswith("\nsheet: no FILE is named\n")
     for name in sheets.names():
         status, out, err = run(sheets.SHEETS / f"{name}.sheet")
         picture, k = out.decode().split("\n"), sheets.sheet(name).k
@@ -147,8 +150,8 @@ def unwritten_checks():
     said = "sheet: standard output cannot be written: "
     for unbuffered in ("", "1"):
         env = {**os.environ, "PYTHONUNBUFFERED": unbuffered}
-        for words in (["-"], ["--list", "-"], ["--help"], []):
-            kind = " ".join(words or ["no file"]) + (", unbuffered" if unbuffered else "")
+        for words in (["-"], ["--list", "-"], ["--help"]):
+            kind = " ".join(words) + (", unbuffered" if unbuffered else "")
             closed = subprocess.run(["sh", "-c", 'exec "$@" >&-', "sh", SCRIPT, *words], input=WHOLE, stderr=subprocess.PIPE, env=env)
             yield f"standard output closed, {kind}", (closed.returncode, closed.stderr.decode()) == (2, f"{said}it is closed\n")
             reading, writing = os.pipe()
@@ -198,7 +201,7 @@ exit "$ENDS"
             late = program.stat().st_mtime_ns + 10 ** 9
             os.utime(path, ns=(late, late))
 
-        first = "sheet: the program is not built yet. It is proved and built now, once, which takes some minutes.\n"
+        first = "sheet: the program is not built yet. It is proved and built now, once, which takes some minutes. target/sheet.log shows how far it is.\n"
         again = "sheet: the program may be older than its sources. What changed is proved and built again.\n"
         failed = "sheet: `rt check listing` ended with status 1, so no program is kept; target/sheet.log has what rt said\n"
         yield "the first time it is built", turn() == (0, True, first, 1)
