@@ -1,13 +1,11 @@
 """How the benchmarks build their plain C programs, and take times."""
 import os
-import pathlib
 import shutil
 import subprocess
 import sys
 
-from program import command, settings
+from program import ROOT, command, settings
 
-ROOT = pathlib.Path(__file__).resolve().parent.parent
 MADE = ROOT / "target" / "bench"
 # a function begins at a multiple of 64 bytes: else the time of a walk varies by a tenth and more with the functions that stand before it
 FLAGS = ["-O2", "-falign-functions=64", "-std=c11", "-Wall", "-Wextra"]

@@ -26,7 +26,7 @@ import sys
 sys.dont_write_bytecode = True  # nothing is left in the tree
 import second
 import second_walk
-from cases import CALLS, COUNT, ENTRIES, REFUSALS, WALKS, all_cases, filled
+from cases import CALLS, COUNT, EDGE, ENTRIES, REFUSALS, WALKS, all_cases, filled
 from program import BUILT, code, number, written_by
 
 PROGRAM = BUILT / "compare"
@@ -170,7 +170,7 @@ def met(call, args, answered):
         return
     yield call, "degree and depth", d, k
     yield from ((call, "coefficient", A) for A in {-2 ** 31} & set(coefficients))
-    yield from ((call, "corner", corner) for corner in {-1_048_576, 1_048_576} & {X, Y})
+    yield from ((call, "corner", corner) for corner in {-EDGE, EDGE} & {X, Y})
     if call == "bounds":
         verdict, lower, upper, bend = values
         yield call, "mode", rest[0], verdict
@@ -230,7 +230,7 @@ def wanted():
         yield from ((call, "refused by", refusal) for refusal in REFUSALS[call])
         yield from ((call, "degree and depth", d, k) for d in range(9) for k in range(8))
         yield from ((call, f"weight {where} the limit") for where in ("at", "just below"))
-        yield from ((call, *rest) for rest in (("coefficient", -2 ** 31), ("corner", -1_048_576), ("corner", 1_048_576)))
+        yield from ((call, *rest) for rest in (("coefficient", -2 ** 31), ("corner", -EDGE), ("corner", EDGE)))
     yield from (("bounds", "mode", mode, verdict) for mode in (0, 1) for verdict in VERDICTS.values())
     yield from (("bounds", "level", j) for j in range(8))
     yield from (("bounds", "no bend", verdict) for verdict in VERDICTS.values())

@@ -1,7 +1,8 @@
 """The second program: the calls check, value, bounds, raster and listing, worked out from the definition page alone.
 
 Plain exact whole numbers, in the page's order and by the page's formulas, with no thought for the size of a number and little for
-speed. It shares nothing with the proved crates, so that where the two agree neither leans on the other.
+speed. It shares nothing with the proved crates, so that where the two agree neither leans on the other. (Who wrote its walks had seen the
+code of the crate `local`; the local form here is the page's sum all the same.)
 
 The bounds of a cell give the verdict on it, and tests/second_walk.py has what the page says of a walk by verdicts.
 

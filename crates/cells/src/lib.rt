@@ -1,4 +1,4 @@
-// What the calls are made of: the conditions that all of them try, what is worked out once for a sheet, and the range of a cell.
+// What the calls are made of: the conditions that they share, what is worked out once for a sheet, and the range of a cell.
 // An inner crate: what its functions require, every caller proves.
 mod cell;
 mod refusals;

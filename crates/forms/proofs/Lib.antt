@@ -1,4 +1,4 @@
--- The theorems on polynomials over a box, from the bottom up: vectors, points, moved points, then those of docs/PROMISES.md.
+-- The theorems on polynomials over a box, from the bottom up: vectors, points, moved points, then those of docs/THEORY.md.
 pub mod Vectors
 pub mod Points
 pub mod Shift

@@ -101,7 +101,7 @@ fn signless(n: u64) -> Number
     Number::Whole(n as i32)
 }
 
-// The number -n, or that it is none, as `-0`, or outside 32 bits or where no negative one may stand.
+// The number -n; or that it is badly written, where n is 0; or outside, where 32 bits do not hold it or no negative number may stand.
 fn below_zero(n: u64, negative: bool) -> Number
     ensures { λ r. ⌜ r ≡ minus-in negative n ⌝ }
 {

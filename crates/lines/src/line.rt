@@ -43,6 +43,7 @@ fn field_after(line: &[u8], at: usize, negative: bool) -> Field
     }
 }
 
+// A bad line, with zeros for its numbers.
 fn bad_line() -> Numbers
     ensures { λ r. ⌜ (r .good ≡ false) × (length (r .values) ≡ 3) ⌝ }
 {

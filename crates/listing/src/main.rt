@@ -5,7 +5,7 @@ use libc::STDOUT_FILENO;
 ghost use mathlib.Core.Path.{_≡_};
 ghost use Prim.Native.Nat.{_≤_};
 ghost use lib.ListN.{length};
-ghost use Rattle.listing.specs.{counted};
+ghost use Rattle.listing.specs.Steps.{counted};
 
 // How many bytes were read, or that reading failed.
 enum Input {

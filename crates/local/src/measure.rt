@@ -71,6 +71,7 @@ fn part(mode: u32, a: usize, b: usize, g: i64) -> Spread
     }
 }
 
+// Two spreads together.
 fn add(x: Spread, y: Spread) -> Spread
     requires { ⌜ (x .fall + y .fall < 2 ^ 63) × (x .rise + y .rise < 2 ^ 63) × (x .bend + y .bend < 2 ^ 63) ⌝ }
     ensures { λ r. ⌜ r ≡ both x y ⌝ }

@@ -1,4 +1,4 @@
--- The coloured cells hold the whole curve: cells are cut into four, each level covers the square, and a cell on the curve is not cleared.
+-- The coloured cells hold every point of the curve with fractional coordinates: cells are cut into four, each level covers the square, and a cell on the curve is not cleared.
 use mathlib.Core.Path.{_≡_, refl, sym, _∙_, ap, subst}
 use mathlib.Core.List.{[], _∷_}
 use Prim.Native.Nat.{ℕ, zero, suc, _+_, _*_, _-_, _^_, _≤_, _<_}

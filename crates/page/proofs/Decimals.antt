@@ -14,7 +14,7 @@ use borrow.Author.Tests.{leb-true, lt-ltb, le-ltb, le-leb, eq-eqb, ne-eqb, eqb-t
 use Rattle.algebra.proofs.Choice.{and-left, and-right, and-both}
 use Rattle.page.specs.SheetText.{is-digit, all-digits, is-empty, is-decimal, amount, is-written, worth}
 use Rattle.page.specs.ListingText.{digits-within, decimal}
-use Rattle.page.specs.TextFacts.{DecimalReads, DecimalOnly, WrittenOnce}
+use Rattle.page.specs.DecimalFacts.{DecimalReads, DecimalOnly, WrittenOnce}
 
 -- ---- the digits of a number: one below ten, and else those of its tenth and the last one
 pub decimal-one : (n : ℕ) → n < 10 → decimal n ≡ (48 + n) ∷ []

@@ -5,7 +5,7 @@ use mathlib.Core.List.{[], _∷_}
 use Prim.Native.Nat.{ℕ, _+_, _*_, _-_, _^_, _≤_}
 use native.Mathlib.Nat as Nat
 use native.Mathlib.Omega.{arith}
-use borrow.Author.Tests.{le-ltb, le-leb}
+use borrow.Author.Tests.{le-leb}
 use lib.Dec.{T}
 use lib.IntN.{ℤ, pos, negℤ, _+ℤ_, _-ℤ_, _*ℤ_, natAbs}
 use lib.Signed.{_≤ℤ_, ltZ, ltZ-yes, clashℤ}
@@ -21,7 +21,7 @@ use Rattle.page.specs.Scaled.{half-side, InCell}
 use Rattle.page.specs.Weight.{R, weight}
 use Rattle.page.specs.Refusals.{outside-side, misplaced, point, refusal, to-check}
 use Rattle.page.specs.Facts.{SquareIsCell, OnlyZeros}
-use Rattle.page.proofs.Rows.{or-both, check-rows, range-0, outside-size, rest}
+use Rattle.page.proofs.Rows.{no-range-refusal, or-both, check-rows, rest}
 use Rattle.page.proofs.Cells.{inside-side, cells-make}
 use Rattle.page.proofs.Weights.{R-positive, member-triangle}
 use Rattle.page.proofs.Facts.{accepted-by-check}
@@ -100,5 +100,4 @@ only-zeros S r d k = (zeros, some)
         let m = member-triangle (S .d) (λ i j. natAbs (A S i j) * R S ^ (i + j)) i j (rw d l) in
         let o : 1 ≤ natAbs (A S i j) * R S ^ (i + j) = Nat.mul-le-mul (Nat.pos-of-ne-zero (λ e. n (natAbs-zero (A S i j) e))) (Nat.one-le-pow (i + j) (R S) (R-positive S)) in
         let b : 2 ^ 62 ≤ weight S = rw scale (Nat.le-trans (omega arith) (Nat.mul-le-mul-left (2 ^ 64) (Nat.le-trans o m))) in
-        check-rows S ∙ rest _ (sym (range-0 S (r .degree) (r .counted) (r .depth) (outside-size (S .X) ∙ le-ltb 1_048_576 _ (r .corner-x)) (outside-size (S .Y) ∙ le-ltb 1_048_576 _ (r .corner-y)) (r .side)))
-        ∙ rw (le-leb (2 ^ 62) (weight S) b)
+        check-rows S ∙ rest _ (no-range-refusal S r) ∙ rw (le-leb (2 ^ 62) (weight S) b)

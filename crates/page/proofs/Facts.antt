@@ -6,7 +6,7 @@ use mathlib.Core.Logic.{⊎-elim}
 use Prim.Native.Nat.{ℕ, _+_, _*_, _-_, _^_, _≤_}
 use native.Mathlib.Nat as Nat
 use native.Mathlib.Omega.{arith}
-use borrow.Author.Tests.{ltb-true, le-ltb, lt-leb}
+use borrow.Author.Tests.{ltb-true, lt-leb}
 use lib.Dec.{ltb}
 use lib.IntN.{ℤ, pos, _+ℤ_, _-ℤ_, _*ℤ_, natAbs, pow}
 use Rattle.algebra.specs.Sum.{sum, _⋯_}
@@ -30,7 +30,7 @@ use Rattle.page.specs.Bounds.{lower, upper}
 use Rattle.page.specs.Weight.{weight, Accepted}
 use Rattle.page.specs.Refusals.{Row, table, first, refusal, to-check}
 use Rattle.page.specs.Facts.{ScalesF, AtWhole, SameFraction, BoundsInOrder, SharedEdges, Expands, AtMost45, AcceptedByCheck, GivenBy, GivenExactly, NoneGiven}
-use Rattle.page.proofs.Rows.{check-rows, check-passed, range-0, outside-size, rest}
+use Rattle.page.proofs.Rows.{check-rows, check-passed, no-range-refusal, rest}
 use Rattle.page.proofs.Demand3.{contained}
 use Rattle.page.proofs.Page.{polynomial, centre, F-is, G-is, value-is}
 
@@ -95,10 +95,7 @@ pub accepted-by-check : AcceptedByCheck
 accepted-by-check S = (passes, check-passed S)
   where
     passes : Accepted S → refusal (to-check S) ≡ 0
-    passes a =
-        let r = a .ranges in
-        check-rows S ∙ rest _ (sym (range-0 S (r .degree) (r .counted) (r .depth) (outside-size (S .X) ∙ le-ltb 1_048_576 _ (r .corner-x)) (outside-size (S .Y) ∙ le-ltb 1_048_576 _ (r .corner-y)) (r .side)))
-        ∙ rw (lt-leb (2 ^ 62) (weight S) (a .light))
+    passes a = check-rows S ∙ rest _ (no-range-refusal S (a .ranges)) ∙ rw (lt-leb (2 ^ 62) (weight S) (a .light))
 
 -- ---- the number of a row is given exactly when it holds and nothing tried before it does
 skipped : (r : Row) (rs : List Row) → r .holds ≡ false → first (r ∷ rs) ≡ first rs

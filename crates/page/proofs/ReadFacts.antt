@@ -12,8 +12,8 @@ use lib.Seq.{take-all, length-take-le}
 use Rattle.page.specs.Sheet.{count}
 use Rattle.page.specs.Weight.{weight}
 use Rattle.page.specs.Refusals.{outside-range, table, first, refusal, unless}
-use Rattle.page.specs.SheetText.{Line, ended-line, before-line, lines, Numbers, bad, good, line-numbers, term-of, is-admitted, coefficient-of, Said, Text, bad-line, well-formed, with-terms, with-line, line-then, term-numbers, terms-from, text-of, sheet-in, to-read, refused, accepted, outcome-of, outcome}
-use Rattle.page.specs.ReadFacts.{TermsAre, AsManyCoefficients, ReadNumber, ReadNever, number-of, rows-of, ReadTable, BadWithin, BadStays, LinesJoin, FirstDecide}
+use Rattle.page.specs.SheetText.{Line, ended-line, before-line, lines, before-field, fields, Numbers, bad, good, line-numbers, term-of, is-admitted, coefficient-of, Said, Text, bad-line, well-formed, with-terms, with-line, line-then, term-numbers, terms-from, text-of, sheet-in, to-read, refused, accepted, outcome-of, outcome}
+use Rattle.page.specs.ReadFacts.{TermsAre, AsManyCoefficients, ReadNumber, ReadNever, number-of, rows-of, ReadTable, BadWithin, BadStays, LinesJoin, FieldsJoin, FourLines, FirstDecide}
 use Rattle.page.proofs.Rows.{unless-number}
 use Rattle.page.proofs.Order.{order-long, in-order-at}
 
@@ -124,6 +124,36 @@ joined (b ∷ text) more = by (eqb b 10) (lines (text ++ (10 ∷ []))) (joined t
 
 pub lines-join : LinesJoin
 lines-join text more = joined text more .0
+
+-- ---- the same of a tab: what stands before it has a field at least, which takes the byte before it
+parted : (before more : List ℕ) → (fields (before ++ (9 ∷ more)) ≡ fields before ++ fields more) × (1 ≤ length (fields before))
+unfolding fields
+parted [] more = (refl, omega arith)
+parted (b ∷ before) more = by (eqb b 9) (fields before) (parted before more)
+  where
+    by : (c : Bool) (fs : List (List ℕ)) {longer : List (List ℕ)} → (longer ≡ fs ++ fields more) × (1 ≤ length fs)
+        → let l = cond c ([] ∷ fs) (before-field b fs) in (cond c ([] ∷ longer) (before-field b longer) ≡ l ++ fields more) × (1 ≤ length l)
+    by true fs h = (ap (λ l. [] ∷ l) (h .0), omega arith)
+    by false [] h = absurd (omega arith)
+    by false (f ∷ fs) h = (ap (before-field b) (h .0), omega arith)
+
+pub fields-join : FieldsJoin
+fields-join before more = parted before more .0
+
+-- ---- a well-formed text has each of the first four lines
+module _ (w : Said) where
+  from-good : (n : ℕ) (l : Numbers) {rest : List ℤ → Text} {P : Type 0} → with-line n l rest ≡ well-formed w → ((zs : List ℤ) → rest zs ≡ well-formed w → P) → P
+  from-good n bad e f = let z : _≡_ {A = ℕ} 0 1 = cc in absurd (omega arith)
+  from-good n (good zs) e f = f zs e
+
+  one-more : (m n letter : ℕ) (ns : List Bool) (ls : List Line) (rest : List ℤ → List Line → Text) → line-then n letter ns ls rest ≡ well-formed w
+      → ((zs : List ℤ) (ls : List Line) → rest zs ls ≡ well-formed w → m ≤ length ls) → m + 1 ≤ length ls
+  one-more m n letter ns [] rest e f = let z : _≡_ {A = ℕ} 0 1 = cc in absurd (omega arith)
+  one-more m n letter ns (l ∷ ls) rest e f = from-good n (line-numbers letter ns l) e (λ zs g. let h = f zs ls g in omega arith)
+
+pub four-lines : FourLines
+unfolding text-of
+four-lines ls w e = one-more w 3 _ _ _ ls _ e (λ d ls e. one-more w 2 _ _ _ ls _ e (λ b ls e. one-more w 1 _ _ _ ls _ e (λ k ls e. one-more w 0 _ _ _ ls _ e (λ m ls e. omega arith))))
 
 -- ---- the first 8,193 bytes decide
 too-long : (text : List ℕ) → 8_192 < length text → outcome text ≡ refused 11 0

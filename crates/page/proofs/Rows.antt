@@ -201,6 +201,10 @@ module _ (S : Sheet) (degree : S .d ≤ 8) (counted : length (S .coefficients) �
       pub range-0 : S .s ≤ 10 → 0 ≡ range-refusal S
       range-0 h = sym (range-last S degree counted depth ∙ rw (inside-x, inside-y, le-ltb 10 (S .s) h))
 
+-- so what is in range is refused by none of them
+pub no-range-refusal : (S : Sheet) → InRange S → range-refusal S ≡ 0
+no-range-refusal S r = sym (range-0 S (r .degree) (r .counted) (r .depth) (outside-size (S .X) ∙ le-ltb 1_048_576 _ (r .corner-x)) (outside-size (S .Y) ∙ le-ltb 1_048_576 _ (r .corner-y)) (r .side))
+
 -- ---- a number that is not 0 stays; after 0 the rest decides
 pub stays : (n m : ℕ) → (n ≡ 0 → ⊥) → n ≡ or-else n m
 stays zero m h = absurd (h refl)

@@ -38,7 +38,7 @@ P8 = sheet 2 (pos 0 ∷ pos 0 ∷ pos 0 ∷ pos 0 ∷ pos 1 ∷ pos 0 ∷ []) (n
 abbrev pub P9 : Sheet
 P9 = sheet 2 (pos 0 ∷ pos 0 ∷ pos 0 ∷ pos 0 ∷ pos 0 ∷ pos 1 ∷ []) (pos 0) 0 0
 
--- one coefficient at a place of 45, and zeros
+-- one coefficient at the first of 45 places, and zeros
 abbrev pub constant : ℤ → ℕ → ℕ → Sheet
 constant c d k = sheet d (c ∷ replicate 44 (pos 0)) (pos 0) 0 k
 

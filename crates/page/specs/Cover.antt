@@ -1,4 +1,4 @@
--- The coloured cells hold the whole curve, as statements of every sheet, accepted or not, and both modes. That they hold is proofs/Cover.
+-- The coloured cells hold every point of the curve with fractional coordinates, as statements of every sheet, accepted or not, and both modes. That they hold is proofs/Cover.
 use mathlib.Core.Path.{_≡_}
 use Prim.Native.Nat.{ℕ, _+_, _*_, _≤_, _<_}
 use lib.IntN.{ℤ, pos, _+ℤ_, _-ℤ_}
@@ -29,7 +29,7 @@ LevelsCover = (S : Sheet) (j : ℕ) → j ≤ S .k → (M N : ℤ) (Q : ℕ) →
 abbrev pub CurveColoured : Type 0
 CurveColoured = (S : Sheet) (mode : Mode) (p q : ℕ) (M N : ℤ) (Q : ℕ) → 1 ≤ Q → InCell S (S .k) p q M N Q → value-at S M N Q ≡ pos 0 → colour (verdict S mode) (S .k) p q ≡ 1
 
--- so every point of the curve in the square lies in a coloured finest cell
+-- so every point of the curve in the square, M/Q and N/Q, lies in a coloured finest cell
 abbrev pub CurveCovered : Type 0
 CurveCovered = (S : Sheet) (mode : Mode) (M N : ℤ) (Q : ℕ) → 1 ≤ Q → InCell S 0 0 0 M N Q → value-at S M N Q ≡ pos 0
     → (h : Holder S (S .k) M N Q) × (colour (verdict S mode) (S .k) (h .column) (h .row) ≡ 1)

@@ -8,7 +8,7 @@ pub mod Weight
 pub mod Refusals
 pub mod SheetText
 pub mod ListingText
-pub mod TextFacts
+pub mod DecimalFacts
 pub mod Facts
 pub mod ReadFacts
 pub mod Demand3

@@ -9,7 +9,7 @@ use lib.ListN.{length, take, getD}
 use Rattle.algebra.specs.Triangle.{place}
 use Rattle.page.specs.Sheet.{count, A}
 use Rattle.page.specs.Refusals.{Row, _when_, table, first}
-use Rattle.page.specs.SheetText.{Line, lines, good, number-at, whole-at, term-numbers, coefficient-of, Said, Text, bad-line, well-formed, text-of, in-order, sheet-in, to-read, Outcome, refused, accepted, outcome}
+use Rattle.page.specs.SheetText.{Line, lines, fields, good, number-at, whole-at, term-numbers, coefficient-of, Said, Text, bad-line, well-formed, text-of, in-order, sheet-in, to-read, Outcome, refused, accepted, outcome}
 
 -- ---- the order i = 0..d and within it j = 0..d-i: what is listed in that order has A(i,j) at the place of (i,j)
 abbrev pub InOrderAt : Type 0
@@ -68,6 +68,14 @@ BadStays = (ls more : List Line) (n : ℕ) → text-of ls ≡ bad-line n → n �
 -- bytes after an LF are lines of their own: they change none of those before
 abbrev pub LinesJoin : Type 0
 LinesJoin = (text more : List ℕ) → lines (text ++ (10 ∷ more)) ≡ lines (text ++ (10 ∷ [])) ++ lines more
+
+-- a tab parts the fields before it from those after it
+abbrev pub FieldsJoin : Type 0
+FieldsJoin = (before more : List ℕ) → fields (before ++ (9 ∷ more)) ≡ fields before ++ fields more
+
+-- a text in which one of the first four lines is missing is not well-formed
+abbrev pub FourLines : Type 0
+FourLines = (ls : List Line) (w : Said) → text-of ls ≡ well-formed w → 4 ≤ length ls
 
 -- ---- terms may come in any order: two of them that stand side by side, after the first four lines, may be exchanged, and the text is well-formed as before, with the same sheet and mode
 pub record SameSheet (v : Said) (t : Text) : Type 0 where

@@ -70,9 +70,11 @@ without-sign (b ∷ bs) = cond (eqb b 45) bs (b ∷ bs)
 abbrev pub is-zero : List ℕ → Bool
 is-zero f = eqb (amount 0 f) 0
 
+-- decimal, no plus, no leading zero, no `-0`
 abbrev pub is-written : List ℕ → Bool
 is-written f = is-decimal (without-sign f) && not (is-minus f && is-zero (without-sign f))
 
+-- the number that a field writes
 abbrev pub worth : List ℕ → ℤ
 worth f = cond (is-minus f) (negℤ (pos (amount 0 (without-sign f)))) (pos (amount 0 f))
 
@@ -115,6 +117,7 @@ after-letter letter ns (f ∷ fs) = cond (is-letter letter f) (numbers ns fs) ba
 abbrev pub line-numbers : ℕ → List Bool → Line → Numbers
 line-numbers letter ns l = cond (l .ended) (after-letter letter ns (fields (l .bytes))) bad
 
+-- the n-th of a line's numbers, from 0, and its size where it may not be negative
 abbrev pub number-at : List ℤ → ℕ → ℤ
 number-at zs n = getD zs n (pos 0)
 
@@ -133,6 +136,7 @@ term-of zs = record { i = whole-at zs 0; j = whole-at zs 1; coefficient = number
 abbrev pub is-term : ℕ → ℕ → Term → Bool
 is-term i j t = eqb (t .i) i && eqb (t .j) j
 
+-- some term is that of (i,j)
 abbrev pub is-named : ℕ → ℕ → List Term → Bool
 is-named i j [] = false
 is-named i j (t ∷ ts) = is-term i j t || is-named i j ts

@@ -1,10 +1,12 @@
 -- What the promise of `read` says of its answer, for every answer that satisfies it. That it holds is proofs/Facts.
 use mathlib.Core.Path.{_≡_}
 use mathlib.Core.List.{List}
-use Prim.Native.Nat.{ℕ, _≤_}
+use Prim.Native.Nat.{ℕ, _-_, _≤_}
 use lib.IntN.{pos}
-use lib.ListN.{replicate}
+use lib.ListN.{take, drop, replicate}
+use Rattle.page.specs.Sheet.{count}
 use Rattle.page.specs.Refusals.{first}
+use Rattle.page.specs.SheetText.{Said, sheet-in, accepted, outcome}
 use Rattle.page.specs.ReadFacts.{text-table}
 use Rattle.reading.specs.declared.Reading.{Reading}
 use Rattle.reading.specs.Promises.{ReadPromise}
@@ -21,3 +23,8 @@ ReadingZeros = (text : List ℕ) (r : Reading) → ReadPromise text r → (r .re
 -- the line is counted from 1 where the number is 10, and it is 0 everywhere else
 abbrev pub ReadingLine : Type 0
 ReadingLine = (text : List ℕ) (r : Reading) → ReadPromise text r → (r .refusal ≡ 10 → 1 ≤ r .line) × ((r .refusal ≡ 10 → ⊥) → r .line ≡ 0)
+
+-- where the text is accepted, the coefficients of its sheet stand first, and zeros in all places that are not used
+abbrev pub ReadingSheet : Type 0
+ReadingSheet = (text : List ℕ) (r : Reading) (w : Said) → ReadPromise text r → outcome text ≡ accepted w →
+    (take (count (r .d)) (r .coefficients) ≡ sheet-in w .coefficients) × (drop (count (r .d)) (r .coefficients) ≡ replicate (45 - count (r .d)) (pos 0))

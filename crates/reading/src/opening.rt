@@ -6,13 +6,14 @@ ghost use lib.IntN.{natAbs};
 ghost use lib.ListN.{length};
 ghost use Rattle.reading.specs.Steps.{head-by, HeadRead};
 
-// The size of a number: that of one that is not negative is the number.
+// A number without its sign; none that comes here has one.
 pub fn size(z: i32) -> u32
     ensures { λ r. ⌜ r ≡ natAbs z ⌝ }
 {
     numbers::size(numbers::wide(z)) as u32
 }
 
+// The line that is bad, and zeros.
 fn bad_head(line: u32) -> Head
     ensures { λ r. ⌜ (r .bad ≡ line) × (r .next ≡ 0) ⌝ }
 {
@@ -45,6 +46,7 @@ fn head_of(next: usize, degree: [i32; 3], square: [i32; 3], depth: [i32; 3], mod
     }
 }
 
+// The first four lines, or the first of them that is bad.
 pub fn read_head(text: &[u8]) -> Head
     ensures { λ r. ⌜ HeadRead (now (text .entry)) r ⌝ }
 {

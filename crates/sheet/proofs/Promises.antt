@@ -53,11 +53,11 @@ pub bounds-kept : (S : Sheet) (mode j p q : ℕ) {r : Bounded} → r ≡ bounded
 bounds-kept S mode j p q e = (e, ap states-bounds e ∙ bounds-states S mode j p q)
 
 -- ---- and by nothing else
-pub check-unique : OneCheck
-check-unique S r t p q = p .0 ∙ sym (q .0)
+pub one-check : OneCheck
+one-check S r t p q = p .0 ∙ sym (q .0)
 
-pub value-unique : OneValue
-value-unique S u v r t p q = p .0 ∙ sym (q .0)
+pub one-value : OneValue
+one-value S u v r t p q = p .0 ∙ sym (q .0)
 
-pub bounds-unique : OneBounds
-bounds-unique S mode j p q r t x y = x .0 ∙ sym (y .0)
+pub one-bounds : OneBounds
+one-bounds S mode j p q r t x y = x .0 ∙ sym (y .0)

@@ -35,7 +35,7 @@ weighed S = unless (refusal (to-check S)) (λ n. record { number = n; weight = 0
 unfoldable pub valued : Sheet → ℤ → ℤ → Valued
 valued S u v = unless (refusal (at-point S u v)) Valued.Refused (Valued.At (F S u v))
 
--- the number and the value
+-- the number and the value that each case states, and those of the page
 pub record Evaluated : Type 0 where
   pub number : ℕ
   pub value : ℤ
@@ -51,7 +51,7 @@ evaluated S u v = unless (refusal (at-point S u v)) (λ n. record { number = n; 
 unfoldable pub bounded : Sheet → ℕ → ℕ → ℕ → ℕ → Bounded
 bounded S mode j p q = unless (refusal (in-cell S mode j p q)) Bounded.Refused (Bounded.Cell (verdict S (mode-of mode) j p q) (bend S j p q))
 
--- the number, the two bounds and the bend
+-- the number, the two bounds and the bend that each case states, and those of the page
 pub record Measured : Type 0 where
   pub number : ℕ
   pub lower : ℤ

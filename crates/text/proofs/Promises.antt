@@ -13,7 +13,7 @@ use Rattle.page.specs.ListingText.{text-after, written-text}
 use Rattle.writing.specs.Steps.{Put}
 use Rattle.writing.proofs.Puts.{put-over}
 use Rattle.text.specs.Answers.{room, fresh, written-length, written-place}
-use Rattle.text.specs.Promises.{PlacePromise, AnswerPromise, OnePlace, OneAnswer, WrittenText}
+use Rattle.text.specs.Promises.{PlacePromise, AnswerPromise, OnePlace, OneAnswer, TextLeft}
 
 -- ---- a place without the room
 pub no-room : (text old : List ℕ) → length old < room → AnswerPromise text old 0 old
@@ -39,8 +39,8 @@ one-place r t p q = p ∙ sym q
 pub one-answer : OneAnswer
 one-answer text old r t now after p q = (p .0 ∙ sym (q .0), p .1 ∙ sym (q .1))
 
-pub the-text : WrittenText
-the-text text old r now p h =
+pub text-left : TextLeft
+text-left text old r now p h =
     let q = found text old h p in
     ap (λ n. take n now) (q .0) ∙ ap (take (length (written-text text))) (q .1) ∙ take-at (written-text text) (drop (length (written-text text)) old) (length (written-text text)) refl
 

@@ -1,6 +1,6 @@
 -- What the promises say of an answer and of the place that a call leaves.
 use mathlib.Core.Path.{_≡_, refl, sym, _∙_, ap}
-use mathlib.Core.List.{List, _++_}
+use mathlib.Core.List.{List, [], _∷_, _++_}
 use Prim.Native.Nat.{ℕ, _+_, _*_, _^_, _≤_}
 use native.Mathlib.Nat as Nat
 use native.Mathlib.Omega.{arith}
@@ -9,14 +9,14 @@ use lib.Seq.{take-append-seam}
 use Rattle.verdicts.specs.Walking.{raster, listing}
 use Rattle.verdicts.proofs.Lengths.{raster-long, listing-long}
 use Rattle.verdicts.proofs.Bytes.{byte-below, raster-byte}
-use Rattle.verdicts.proofs.Records.{same-story}
+use Rattle.verdicts.proofs.Records.{same-story, one-record-each}
 use Rattle.page.specs.Sheet.{Sheet, mode-of}
 use Rattle.page.specs.Refusals.{refusal, to-walk}
 use Rattle.page.proofs.Rows.{unless-none, unless-refused, unless-number, walk-passed}
 use Rattle.page.proofs.Raster.{white-signed, coloured-meets}
 use Rattle.page.proofs.Cover.{curve-covered}
 use Rattle.walk.specs.Answers.{verdicts, rastered, recorded, Reckoned, reckoned, states-listing, Enumerated, enumerated}
-use Rattle.walk.specs.Facts.{RasterNumber, ListingNumber, RasterZeros, ListingZeros, PrintedByte, PrintedSigned, PrintedMeets, PrintedCurve, WrittenRecords, RefusedUnchanged, LaterUnchanged}
+use Rattle.walk.specs.Facts.{RasterNumber, ListingNumber, RasterZeros, ListingZeros, PrintedByte, PrintedSigned, PrintedMeets, PrintedCurve, WrittenRecords, ListedColour, ListedSigned, RefusedUnchanged, LaterUnchanged}
 use Rattle.walk.proofs.Whole.{over-length, over-later}
 
 -- ---- the number, and zeros beside it
@@ -79,6 +79,20 @@ written-records S mode old r now h e =
     let v = verdicts S mode in let xs = listing v (S .k) in let depth = walk-passed S mode (length old) e .0 .ranges .depth in
     let l : states-listing r .length ≡ length xs = ap (λ t. t .length) (h .1 ∙ sym (unless-none _ _ _ e)) in
     (l, rw (l, h .2 ∙ listing-place S mode old e, take-append-seam xs (drop (length xs) old)) (same-story v (S .k) depth))
+
+-- one record for each finest cell
+pub listed-colour : ListedColour
+listed-colour S mode old r now h e p q a b =
+    let v = verdicts S mode in let xs = listing v (S .k) in
+    rw (written-records S mode old r now h e .0, h .2 ∙ listing-place S mode old e, take-append-seam xs (drop (length xs) old)) (one-record-each v (S .k) p q (walk-passed S mode (length old) e .0 .ranges .depth) a b)
+
+pub listed-signed : ListedSigned
+listed-signed S mode old r now h e p q a b M N Q o i =
+    let s = white-signed S (mode-of mode) p q M N Q o i in let c = listed-colour S mode old r now h e p q a b in
+    (λ z. s .0 (head-is (sym c ∙ z)), λ z. s .1 (head-is (sym c ∙ z)))
+  where
+    head-is : {m n : ℕ} → m ∷ [] ≡ n ∷ [] → m ≡ n
+    head-is z = ap (λ l. getD l 0 0) z
 
 -- ---- what stays as it was
 pub refused-unchanged : RefusedUnchanged

@@ -46,8 +46,8 @@ module _ (S : Sheet) (mode : ℕ) (old : List ℕ) (e : refusal (to-walk S mode 
       listing-kept S mode old (ap (λ n. Listed.Records n v c) long ∙ ap₂ (Listed.Records (length (listing (verdicts S mode) (S .k)))) visits colours ∙ unless-none Listed.Refused _ _ e) (w ∙ unless-none _ _ _ e)
 
 -- ---- and by nothing else
-pub raster-unique : OneRaster
-raster-unique S mode old r t now after p q = (p .0 ∙ sym (q .0), p .2 ∙ sym (q .2))
+pub one-raster : OneRaster
+one-raster S mode old r t now after p q = (p .0 ∙ sym (q .0), p .2 ∙ sym (q .2))
 
-pub listing-unique : OneListing
-listing-unique S mode old r t now after p q = (p .0 ∙ sym (q .0), p .2 ∙ sym (q .2))
+pub one-listing : OneListing
+one-listing S mode old r t now after p q = (p .0 ∙ sym (q .0), p .2 ∙ sym (q .2))

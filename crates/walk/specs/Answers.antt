@@ -23,7 +23,7 @@ tallied S mode n = unless (refusal (to-walk S mode n)) Tallied.Refused (Tallied.
 unfoldable pub rastered : Sheet → ℕ → List ℕ → List ℕ
 rastered S mode old = unless (refusal (to-walk S mode (length old))) (λ n. old) (raster (verdicts S mode) (S .k) ++ drop (4 ^ S .k) old)
 
--- the number and the tally
+-- the number and the tally that each case states, and those of the page
 pub record Reckoned : Type 0 where
   pub number : ℕ
   pub visited : ℕ
@@ -47,7 +47,7 @@ unfoldable pub recorded : Sheet → ℕ → List ℕ → List ℕ
 recorded S mode old =
     unless (refusal (to-walk S mode (length old))) (λ n. old) (listing (verdicts S mode) (S .k) ++ drop (length (listing (verdicts S mode) (S .k))) old)
 
--- the number, the length and the tally
+-- the number, the length and the tally that each case states, and those of the page
 pub record Enumerated : Type 0 where
   pub number : ℕ
   pub length : ℕ

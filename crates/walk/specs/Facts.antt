@@ -1,12 +1,12 @@
 -- What the promises of the calls that walk say of an answer and of the place that a call leaves, for every outcome that satisfies them. That they hold is proofs/Facts.
 use mathlib.Core.Path.{_≡_}
-use mathlib.Core.List.{List}
+use mathlib.Core.List.{List, [], _∷_}
 use Prim.Native.Nat.{ℕ, _+_, _*_, _^_, _≤_, _<_}
 use lib.IntN.{ℤ, pos}
 use lib.ListN.{length, getD, take}
 use lib.Signed.{_<ℤ_}
 use Rattle.verdicts.specs.Walking.{colour, raster, listing}
-use Rattle.verdicts.specs.Facts.{unfolded}
+use Rattle.verdicts.specs.Facts.{unfolded-at, unfolded}
 use Rattle.page.specs.Sheet.{Sheet}
 use Rattle.page.specs.Scaled.{InCell, value-at, MeetsCurve}
 use Rattle.page.specs.Bounds.{bend}
@@ -50,7 +50,7 @@ abbrev pub PrintedMeets : Type 0
 PrintedMeets = (S : Sheet) (mode : ℕ) (old : List ℕ) (r : Tallied) (now : List ℕ) → RasterPromise S mode old r now → refusal (to-walk S mode (length old)) ≡ 0 →
     (p q : ℕ) → p < 2 ^ S .k → q < 2 ^ S .k → getD now (q * 2 ^ S .k + p) 0 ≡ 1 → bend S (S .k) p q ≡ 0 → MeetsCurve S (S .k) p q
 
--- every point of the curve in the square lies in a finest cell of which the byte is 1
+-- every point M/Q, N/Q of the curve in the square lies in a finest cell of which the byte is 1
 abbrev pub PrintedCurve : Type 0
 PrintedCurve = (S : Sheet) (mode : ℕ) (old : List ℕ) (r : Tallied) (now : List ℕ) → RasterPromise S mode old r now → refusal (to-walk S mode (length old)) ≡ 0 →
     (M N : ℤ) (Q : ℕ) → 1 ≤ Q → InCell S 0 0 0 M N Q → value-at S M N Q ≡ pos 0 → (h : Holder S (S .k) M N Q) × (getD now (h .row * 2 ^ S .k + h .column) 0 ≡ 1)
@@ -59,6 +59,18 @@ PrintedCurve = (S : Sheet) (mode : ℕ) (old : List ℕ) (r : Tallied) (now : Li
 abbrev pub WrittenRecords : Type 0
 WrittenRecords = (S : Sheet) (mode : ℕ) (old : List ℕ) (r : Listed) (now : List ℕ) → ListingPromise S mode old r now → refusal (to-walk S mode (length old)) ≡ 0 →
     (states-listing r .length ≡ length (listing (verdicts S mode) (S .k))) × (unfolded (S .k) (take (states-listing r .length) now) ≡ raster (verdicts S mode) (S .k))
+
+-- each finest cell is covered by one of them, which has its colour
+abbrev pub ListedColour : Type 0
+ListedColour = (S : Sheet) (mode : ℕ) (old : List ℕ) (r : Listed) (now : List ℕ) → ListingPromise S mode old r now → refusal (to-walk S mode (length old)) ≡ 0 →
+    (p q : ℕ) → p < 2 ^ S .k → q < 2 ^ S .k → unfolded-at (S .k) (take (states-listing r .length) now) p q ≡ colour (verdicts S mode) (S .k) p q ∷ []
+
+-- demand 3: where that is 2 the value is positive at every point of the cell, edges included, and where it is 3 negative
+abbrev pub ListedSigned : Type 0
+ListedSigned = (S : Sheet) (mode : ℕ) (old : List ℕ) (r : Listed) (now : List ℕ) → ListingPromise S mode old r now → refusal (to-walk S mode (length old)) ≡ 0 →
+    (p q : ℕ) → p < 2 ^ S .k → q < 2 ^ S .k → (M N : ℤ) (Q : ℕ) → 1 ≤ Q → InCell S (S .k) p q M N Q →
+    (unfolded-at (S .k) (take (states-listing r .length) now) p q ≡ 2 ∷ [] → pos 0 <ℤ value-at S M N Q)
+    × (unfolded-at (S .k) (take (states-listing r .length) now) p q ≡ 3 ∷ [] → value-at S M N Q <ℤ pos 0)
 
 -- ---- what stays as it was, of the place lent to `raster` and of the one lent to `listing`
 -- everything, where the call is refused

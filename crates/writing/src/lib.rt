@@ -1,4 +1,5 @@
 // The text of a listing, or of a refusal, written on a place that is lent.
+// An inner crate: what its functions require, every caller proves.
 mod lines;
 mod number;
 

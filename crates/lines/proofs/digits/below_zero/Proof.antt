@@ -1,4 +1,4 @@
--- `reading::digits::below_zero` meets its contract, by the tests.
+-- `lines::digits::below_zero` meets its contract, by the tests.
 use mathlib.Core.Path.{ap}
 use native.Mathlib.Omega.{arith}
 use borrow.Author.Tests.{ne-eqb, lt-ltb, le-ltb, not-true, not-false}

@@ -1,4 +1,4 @@
--- `reading::digits::capped` meets its contract, by the test.
+-- `lines::digits::capped` meets its contract, by the test.
 use native.Mathlib.Omega.{arith}
 use Rattle.lines.proofs.digits.capped.Statement.{statement}
 use Rattle.lines.proofs.digits.capped.Tie as tie

@@ -1,4 +1,4 @@
--- `reading::digits::capped_amount` meets its contract: the ceiling is put in at each digit.
+-- `lines::digits::capped_amount` meets its contract: the ceiling is put in at each digit.
 use mathlib.Core.Path.{refl, _∙_, ap}
 use Prim.Native.Nat.{_+_, _*_, _-_, _^_, min}
 use native.Mathlib.Omega.{arith}

@@ -1,4 +1,4 @@
--- `reading::digits::decimal` meets its contract, by the tests.
+-- `lines::digits::decimal` meets its contract, by the tests.
 use mathlib.Core.Path.{_∙_}
 use mathlib.Core.Logic.{inl, inr}
 use native.Mathlib.Omega.{arith}

@@ -1,4 +1,4 @@
--- `reading::digits::digit` meets its contract, by the tests.
+-- `lines::digits::digit` meets its contract, by the tests.
 use borrow.Author.Tests.{le-leb, lt-leb}
 use Rattle.lines.proofs.digits.digit.Statement.{statement}
 use Rattle.lines.proofs.digits.digit.Tie as tie

@@ -1,4 +1,4 @@
--- `reading::digits::digits_only` meets its contract: byte by byte, until one is no digit.
+-- `lines::digits::digits_only` meets its contract: byte by byte, until one is no digit.
 use native.Mathlib.Omega.{arith}
 use borrow.Author.Needs.{needs}
 use borrow.Author.Tests.{not-true, not-false}

@@ -1,4 +1,4 @@
--- `reading::digits::minus` meets its contract, by its first byte.
+-- `lines::digits::minus` meets its contract, by its first byte.
 use Rattle.lines.proofs.Numerals.{no-minus, is-first}
 use borrow.Author.Needs.{needs}
 use Rattle.lines.proofs.digits.minus.Statement.{statement}

@@ -1,4 +1,4 @@
--- `reading::digits::number` meets its contract, by the sign and the digits.
+-- `lines::digits::number` meets its contract, by the sign and the digits.
 use mathlib.Core.Path.{_∙_}
 use borrow.Author.Tests.{not-true, not-false}
 use Rattle.lines.proofs.Numerals.{Split, split-fits, split-none, split-all, split-minus, split-signless}

@@ -1,4 +1,4 @@
--- `reading::digits::signless` meets its contract, by the test.
+-- `lines::digits::signless` meets its contract, by the test.
 use native.Mathlib.Omega.{arith}
 use mir.Syntax.{w32}
 use mir.Facts.{toZ-pos}

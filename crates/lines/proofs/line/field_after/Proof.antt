@@ -1,4 +1,4 @@
--- `reading::line::field_after` meets its contract, by what the field holds.
+-- `lines::line::field_after` meets its contract, by what the field holds.
 use Rattle.lines.proofs.Numerals.{read32}
 use Rattle.lines.proofs.Parting.{finds}
 use mathlib.Core.Path.{_≡_, sym, _∙_, ap, subst}

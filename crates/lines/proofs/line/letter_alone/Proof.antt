@@ -1,4 +1,4 @@
--- `reading::line::letter_alone` meets its contract, by the field's length and its first byte.
+-- `lines::line::letter_alone` meets its contract, by the field's length and its first byte.
 use Rattle.lines.proofs.Counting.{alone, not-alone}
 use native.Mathlib.Omega.{arith}
 use borrow.Author.Needs.{needs}

@@ -1,4 +1,4 @@
--- `reading::line::numbers_of` meets its contract: the letter, and then field by field.
+-- `lines::line::numbers_of` meets its contract: the letter, and then field by field.
 use mathlib.Core.Path.{_≡_, sym, _∙_, ap, subst}
 use mathlib.Core.Bool.{false}
 use mathlib.Core.List.{_∷_}

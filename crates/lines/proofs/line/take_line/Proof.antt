@@ -1,4 +1,4 @@
--- `reading::line::take_line` meets its contract: the line up to its LF, read.
+-- `lines::line::take_line` meets its contract: the line up to its LF, read.
 use mathlib.Core.Path.{refl}
 use native.Mathlib.Omega.{arith}
 use Rattle.lines.proofs.Parting.{Finds, finds}
