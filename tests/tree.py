@@ -105,7 +105,7 @@ def the_map():
         # a folder may be named as a whole, and what a file lib or Lib holds is told by its crate
         if file.lower() != "lib" and (crate, folder, "") not in found:
             yield f"docs/DESIGN.md does not name {file} of crates/{crate}/{folder}"
-    for crate, folder, file in sorted(name for name in found - files if name[1] and name[2]):
+    for crate, folder, file in sorted(name for name in found - files if all(name)):
         yield f"docs/DESIGN.md names {file} of crates/{crate}/{folder}, which is not there"
 
 
