@@ -2,17 +2,17 @@
 use mathlib.Core.Path.{_≡_, refl, sym, _∙_, ap}
 use mathlib.Core.Bool.{Bool, true, false, _||_, cond, and-false, false≢true}
 use mathlib.Core.List.{List, [], _∷_, _++_}
-use Prim.Native.Nat.{ℕ, _+_, _≤_, _<_}
+use Prim.Native.Nat.{ℕ, _+_}
 use native.Mathlib.Omega.{arith}
 use borrow.Author.Tests.{eqb-true, eq-eqb}
 use lib.Dec.{eqb}
 use lib.IntN.{ℤ}
-use lib.ListN.{length}
 use Rattle.algebra.proofs.Choice.{same-test, and-left, and-right}
 use Rattle.page.specs.Sheet.{sheet-of}
-use Rattle.page.specs.SheetText.{Line, Numbers, bad, good, line-numbers, Term, term-of, is-term, is-named, is-admitted, coefficient-of, Said, Text, bad-line, well-formed, with-terms, with-line, line-then, term-numbers, terms-from, text-of, sheet-in}
+use Rattle.page.specs.SheetText.{Line, Numbers, bad, good, Term, term-of, is-term, is-named, is-admitted, coefficient-of, Said, Text, bad-line, well-formed, with-terms, with-line, term-numbers, terms-from, sheet-in}
 use Rattle.page.specs.ReadFacts.{SameSheet, AnyOrder}
 use Rattle.page.proofs.Order.{order-cong}
+use Rattle.page.proofs.TextHeads.{line-both, text-both}
 
 -- ---- of two terms each names the place of the other, or neither does
 eqb-sym : (m n : ℕ) → eqb m n ≡ eqb n m
@@ -60,8 +60,7 @@ bad-alike n u v e = let z : _≡_ {A = ℕ} 0 1 = cc in absurd (omega arith)
 
 -- through a line, good or bad
 line-alike : (n : ℕ) (l : Numbers) {f g : List ℤ → Text} → ((zs : List ℤ) → Alike (f zs) (g zs)) → Alike (with-line n l f) (with-line n l g)
-line-alike n bad h = bad-alike n _
-line-alike n (good zs) h = h zs
+line-alike n l h = line-both Alike (λ n. bad-alike n _) n l (λ zs _. h zs)
 
 -- a test in the one, and in the other one that holds
 when-alike : (c : Bool) (n : ℕ) {t u : Text} → (c ≡ true → Alike t u) → Alike (cond c t (bad-line n)) u
@@ -119,14 +118,5 @@ module _ (a b : Line) (more : List Line) where
   terms-alike (l ∷ ls) n w = line-alike n (term-numbers l) (λ zs.
       when-alike (is-admitted (w .d) (w .terms) (term-of zs)) n (λ e. held _ n e (terms-alike ls (n + 1) (with-terms w (term-of zs ∷ w .terms)))))
 
-  then-alike : (m n letter : ℕ) (ns : List Bool) (ls : List Line) (rest : List ℤ → List Line → Text) → m < length ls
-      → ((zs : List ℤ) (ls : List Line) → m ≤ length ls → Alike (rest zs (ls ++ (a ∷ b ∷ more))) (rest zs (ls ++ (b ∷ a ∷ more))))
-      → Alike (line-then n letter ns (ls ++ (a ∷ b ∷ more)) rest) (line-then n letter ns (ls ++ (b ∷ a ∷ more)) rest)
-  then-alike m n letter ns [] rest h f = absurd (omega arith)
-  then-alike m n letter ns (l ∷ ls) rest h f = line-alike n (line-numbers letter ns l) (λ zs. f zs ls (omega arith))
-
 pub any-order : AnyOrder
-unfolding text-of
-any-order ls more a b v h e =
-    then-alike a b more 3 _ _ _ ls _ h (λ d ls h. then-alike a b more 2 _ _ _ ls _ h (λ b' ls h. then-alike a b more 1 _ _ _ ls _ h (λ k ls h.
-    then-alike a b more 0 _ _ _ ls _ h (λ m ls h. terms-alike a b more ls _ _)))) v e
+any-order ls more a b v h e = text-both Alike (λ n. bad-alike n _) (a ∷ b ∷ more) (b ∷ a ∷ more) ls h (terms-alike a b more) v e

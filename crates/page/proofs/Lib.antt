@@ -9,6 +9,7 @@ pub mod Raster
 pub mod Cover
 pub mod Facts
 pub mod ReadFacts
+pub mod TextHeads
 pub mod AnyOrder
 pub mod Edges
 pub mod Decimals

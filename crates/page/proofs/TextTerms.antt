@@ -2,17 +2,17 @@
 use mathlib.Core.Path.{_≡_, refl, sym, _∙_, ap}
 use mathlib.Core.Bool.{Bool, true, false, not, _&&_, cond, and-false, false≢true}
 use mathlib.Core.List.{List, [], _∷_, _++_}
-use Prim.Native.Nat.{ℕ, _+_, _≤_, _<_}
+use Prim.Native.Nat.{ℕ, _+_, _≤_}
 use native.Mathlib.Omega.{arith}
 use borrow.Author.Tests.{eqb-true, eq-eqb, leb-true}
 use lib.Dec.{leb, eqb}
 use lib.IntN.{ℤ}
-use lib.ListN.{length}
 use Rattle.algebra.proofs.Choice.{and-left, and-right}
 use Rattle.page.specs.Sheet.{A}
-use Rattle.page.specs.SheetText.{Line, Numbers, bad, good, line-numbers, Term, term-of, is-term, is-named, is-admitted, coefficient-of, Said, Text, bad-line, well-formed, with-terms, with-line, line-then, term-numbers, terms-from, text-of, sheet-in}
+use Rattle.page.specs.SheetText.{Line, Numbers, good, Term, term-of, is-term, is-named, is-admitted, coefficient-of, Said, Text, bad-line, well-formed, with-terms, with-line, term-numbers, terms-from, sheet-in}
 use Rattle.page.specs.ReadFacts.{TermGiven}
 use Rattle.page.proofs.ReadFacts.{terms-are}
+use Rattle.page.proofs.TextHeads.{line-both, text-both}
 
 module _ (i j : ℕ) (c : ℤ) where
   -- the text, where it is well-formed, has the coefficient c at i, j
@@ -23,8 +23,7 @@ module _ (i j : ℕ) (c : ℤ) where
   bad-gives n v e = let z : _≡_ {A = ℕ} 0 1 = cc in absurd (omega arith)
 
   line-gives : (n : ℕ) (l : Numbers) {f : List ℤ → Text} → ((zs : List ℤ) → l ≡ good zs → Gives (f zs)) → Gives (with-line n l f)
-  line-gives n bad h = bad-gives n
-  line-gives n (good zs) h = h zs refl
+  line-gives n l {f} h = line-both (λ t _. Gives t) bad-gives n l {f = f} {g = f} h
 
   when-gives : (b : Bool) (n : ℕ) {t : Text} → (b ≡ true → Gives t) → Gives (cond b t (bad-line n))
   when-gives true n h = h refl
@@ -74,14 +73,7 @@ module _ (l : Line) (more : List Line) (zs : List ℤ) (e : term-numbers l ≡ g
   line-given (m ∷ ls) n w = line-gives (t .i) (t .j) (t .coefficient) n (term-numbers m) (λ ys _.
       when-gives (t .i) (t .j) (t .coefficient) (is-admitted (w .d) (w .terms) (term-of ys)) n (λ _. line-given ls (n + 1) (with-terms w (term-of ys ∷ w .terms))))
 
-  then-given : (m n letter : ℕ) (ns : List Bool) (ls : List Line) (rest : List ℤ → List Line → Text) → m < length ls
-      → ((ys : List ℤ) (ls : List Line) → m ≤ length ls → Gives (t .i) (t .j) (t .coefficient) (rest ys (ls ++ (l ∷ more))))
-      → Gives (t .i) (t .j) (t .coefficient) (line-then n letter ns (ls ++ (l ∷ more)) rest)
-  then-given m n letter ns [] rest h f = absurd (omega arith)
-  then-given m n letter ns (x ∷ ls) rest h f = line-gives (t .i) (t .j) (t .coefficient) n (line-numbers letter ns x) (λ ys _. f ys ls (omega arith))
-
 pub term-given : TermGiven
-unfolding text-of
 term-given ls more l zs v h e w =
-    then-given l more zs e 3 _ _ _ ls _ h (λ d ls h. then-given l more zs e 2 _ _ _ ls _ h (λ b ls h. then-given l more zs e 1 _ _ _ ls _ h (λ k ls h.
-    then-given l more zs e 0 _ _ _ ls _ h (λ m ls h. line-given l more zs e ls _ _)))) v w
+    let t = term-of zs in
+    text-both (λ x _. Gives (t .i) (t .j) (t .coefficient) x) (bad-gives (t .i) (t .j) (t .coefficient)) (l ∷ more) (l ∷ more) ls h (line-given l more zs e) v w
