@@ -10,8 +10,8 @@ every entry of every lent place, every byte of a listing. Every walk of the seco
 
 At the end stand, for each call, the accepted cases by degree and by depth, and the cases that agreed by their number, 0 for an accepted one, with
 how many of a call's cases are distinct. Anything that disagrees makes the run fail, as does a number that the call can't be refused by; and where
-there are as many cases as by default, or more, a number, degree or depth that never came up. So many take some 24 minutes of one processor, half of
-that on two: it is no part of the gate.
+there are as many cases as by default, or more, a number, degree or depth that never came up. So many take half an hour of one processor, half of
+that on two: the gate has 300 of each call.
 """
 import argparse
 import collections
