@@ -5,7 +5,7 @@
 
 The calls are check, value, bounds, raster, listing, read, and answer, which is the listing program's text; a text is a case of read and of answer.
 The cases are those of tests/many_cases.py, made in parts: which cases a part has follows from the seed and its name alone. For each part
-target/bin/compare or target/bin/texts is run once, and all that it answers is compared as in tests/compare.py and tests/texts.py: every number,
+target/bin/compare or target/bin/compare_texts is run once, and all that it answers is compared as in tests/compare.py and tests/texts.py: every number,
 every entry of every lent place, every byte of a listing. Every walk of the second program is held to what the page says of walks.
 
 At the end stand, for each call, the accepted cases by degree and by depth, and the cases that agreed by their number, 0 for an accepted one, with
@@ -84,7 +84,7 @@ def told_by(written):
 def compared_texts(found, made):
     """The calls that are given a text."""
     expected = [texts.second_answer(case.text) for case in made]
-    answers = texts.run(BUILT / "texts", made)
+    answers = texts.run(BUILT / "compare_texts", made)
     for case, (got, got_text), (wanted, wanted_text) in zip(made, answers, expected):
         number, _, d, _, _, _, k, *_ = wanted
         noted(found, "read", case.text, number, d, k, got == wanted)

@@ -3,7 +3,7 @@
     python3 tests/texts.py [--seed S] [--cases N]     N random texts, beside those of known make
     python3 tests/texts.py --only NUMBER              one text of that run again, by its number
 
-The program target/bin/texts is run once, on all texts of tests/text_cases.py. It is given for each text its length in 4 bytes and the text. It
+The program target/bin/compare_texts is run once, on all texts of tests/text_cases.py. It is given for each text its length in 4 bytes and the text. It
 answers for each 53 words of 8 bytes, all little-endian: the number, the line, d, X, Y, s, k, the mode and the 45 coefficients; then in one more word
 the length of what the listing program writes for the text, and just that. Every answer is compared with that of tests/second_text.py; and where
 the number and the line are known from how a text was made, the second program is held to them. A run in which some refusal, some bad, missing or
@@ -268,7 +268,7 @@ def main():
     options.add_argument("--seed", type=int, default=20250202)
     options.add_argument("--cases", type=int, default=4000)
     options.add_argument("--only", type=int)
-    options.add_argument("--program", type=pathlib.Path, default=BUILT / "texts")
+    options.add_argument("--program", type=pathlib.Path, default=BUILT / "compare_texts")
     options.add_argument("--listing", type=pathlib.Path, default=BUILT / "listing")
     chosen = options.parse_args()
     cases = all_cases(chosen.seed, chosen.cases)

@@ -19,7 +19,7 @@ import sys
 
 ROOT = pathlib.Path(__file__).resolve().parent.parent
 LONGEST = 400
-CALLS = ("sheet", "walk", "reading", "text")
+CALLS = ("probe", "walk", "reading", "reply")
 # what is of Type 0 and no statement: a kind of thing
 KINDS = {("forms", "Points", "Point"), ("verdicts", "Walking", "Verdicts")}
 # the documents that cite by file and name

@@ -9,14 +9,15 @@ use lib.Pow.{pow-mono}
 use Rattle.algebra.specs.Sum.{_⋯_}
 use Rattle.algebra.proofs.Absolute.{natAbs-*ℤ}
 use Rattle.algebra.proofs.Sum.{sum-cong, sumℕ-cong}
-use Rattle.forms.specs.Bounds.{low, high, bent}
+use Rattle.forms.specs.Bounds.{low, high, bent, mode-of}
 use Rattle.forms.specs.Plane.{moved}
 use Rattle.forms.proofs.Plane.{low-plane, high-plane, bent-plane}
 use Rattle.local.specs.declared.Form.{Form}
 use Rattle.local.specs.declared.Range.{Range}
 use Rattle.local.specs.Table.{held, Tabled, Movable}
 use Rattle.local.proofs.Moves.{moved-agree}
-use Rattle.local.specs.Range.{mode-of, judged, lower-of, upper-of, bend-of, Light, Ranged}
+use Rattle.verdicts.specs.Judging.{judged}
+use Rattle.local.specs.Range.{lower-of, upper-of, bend-of, Light, Ranged}
 use Rattle.page.specs.Sheet.{Sheet}
 use Rattle.page.specs.Scaled.{scaled, IsCell, half-side, U0, V0}
 use Rattle.page.specs.LocalForm.{G}

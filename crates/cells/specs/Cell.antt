@@ -5,7 +5,9 @@ use lib.IntN.{ℤ, pos, _+ℤ_, _*ℤ_}
 use Rattle.forms.specs.Plane.{moved}
 use Rattle.local.specs.declared.Range.{Range}
 use Rattle.local.specs.Table.{held, Tabled}
-use Rattle.local.specs.Range.{mode-of, judged, lower-of, upper-of, bend-of}
+use Rattle.verdicts.specs.Judging.{judged}
+use Rattle.forms.specs.Bounds.{mode-of}
+use Rattle.local.specs.Range.{lower-of, upper-of, bend-of}
 use Rattle.verdicts.specs.Walking.{Verdicts}
 use Rattle.page.specs.Sheet.{Sheet}
 use Rattle.page.specs.Scaled.{scaled}

@@ -9,17 +9,17 @@ fn refused(number: u32) -> [u64; 5] {
     [1, number as u64, 0, 0, 0]
 }
 
-pub fn of_check(checked: sheet::Checked) -> [u64; 5] {
+pub fn of_check(checked: probe::Checked) -> [u64; 5] {
     match checked {
-        sheet::Checked::Accepted { weight, spare } => [0, weight, spare as u64, 0, 0],
-        sheet::Checked::Refused(number) => refused(number),
+        probe::Checked::Accepted { weight, spare } => [0, weight, spare as u64, 0, 0],
+        probe::Checked::Refused(number) => refused(number),
     }
 }
 
-pub fn of_value(valued: sheet::Valued) -> [u64; 5] {
+pub fn of_value(valued: probe::Valued) -> [u64; 5] {
     match valued {
-        sheet::Valued::At(f) => [0, code(f), 0, 0, 0],
-        sheet::Valued::Refused(number) => refused(number),
+        probe::Valued::At(f) => [0, code(f), 0, 0, 0],
+        probe::Valued::Refused(number) => refused(number),
     }
 }
 
@@ -35,10 +35,10 @@ fn of_cell(verdict: verdicts::Verdict, bend: u64) -> [u64; 5] {
     }
 }
 
-pub fn of_bounds(bounded: sheet::Bounded) -> [u64; 5] {
+pub fn of_bounds(bounded: probe::Bounded) -> [u64; 5] {
     match bounded {
-        sheet::Bounded::Cell { verdict, bend } => of_cell(verdict, bend),
-        sheet::Bounded::Refused(number) => refused(number),
+        probe::Bounded::Cell { verdict, bend } => of_cell(verdict, bend),
+        probe::Bounded::Refused(number) => refused(number),
     }
 }
 

@@ -11,7 +11,7 @@ use crate::coding::word;
 fn check(case: &[u8; 320], coefficients: &[i32]) -> [u64; 5] {
     let x = signed(word(case, X));
     let y = signed(word(case, Y));
-    of_check(sheet::check(
+    of_check(probe::check(
         word(case, D),
         coefficients,
         x,
@@ -26,7 +26,7 @@ fn value(case: &[u8; 320], coefficients: &[i32]) -> [u64; 5] {
     let y = signed(word(case, Y));
     let u = long_signed(long_word(case, U));
     let v = long_signed(long_word(case, V));
-    of_value(sheet::value(
+    of_value(probe::value(
         word(case, D),
         coefficients,
         x,
@@ -45,7 +45,7 @@ fn bounds(case: &[u8; 320], coefficients: &[i32]) -> [u64; 5] {
     let j = word(case, J);
     let p = word(case, P);
     let q = word(case, Q);
-    of_bounds(sheet::bounds(
+    of_bounds(probe::bounds(
         word(case, D),
         coefficients,
         x,

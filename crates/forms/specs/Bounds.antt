@@ -1,7 +1,7 @@
 -- The two bounds over a box, and its bend, from the local form.
 use mathlib.Core.Bool.{Bool, false, cond}
 use mathlib.Core.List.{List}
-use Prim.Native.Nat.{ℕ}
+use Prim.Native.Nat.{ℕ, zero, suc}
 use lib.Dec.{leb, eqb}
 use lib.IntN.{ℤ, pos, negℤ, natAbs}
 use Rattle.algebra.specs.MinMax.{minℤ, maxℤ}
@@ -14,6 +14,11 @@ use Rattle.forms.specs.LocalForm.{local}
 -- the two modes: 0, modified affine, and 1, the centred form
 pub data Mode : Type 0 where
   affine centred : Mode
+
+-- by its number. Any number above 1 is refused by 5 before this is asked
+abbrev pub mode-of : ℕ → Mode
+mode-of zero = affine
+mode-of (suc n) = centred
 
 -- the even rule: mode 0, and every exponent even
 abbrev pub even-rule : Mode → List ℕ → Bool

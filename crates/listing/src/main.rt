@@ -56,8 +56,8 @@ fn read_all(place: &mut [u8]) -> Input
 
 // Writes the listing of a text, or the line of its refusal.
 fn respond(input: &[u8]) {
-    let mut place = text::place();
-    let n = text::answer(input, &mut place);
+    let mut place = reply::place();
+    let n = reply::answer(input, &mut place);
     if !io::write_all(STDOUT_FILENO, &place[..n]) {
         io::write_all(
             STDERR_FILENO,

@@ -2,29 +2,18 @@
 use mathlib.Core.Path.{_≡_}
 use mathlib.Core.Bool.{cond}
 use mathlib.Core.List.{List, [], _∷_}
-use Prim.Native.Nat.{ℕ, zero, suc, _+_, _-_, _^_, _≤_, _<_}
+use Prim.Native.Nat.{ℕ, _+_, _-_, _^_, _≤_, _<_}
 use lib.Dec.{eqb}
-use lib.IntN.{ℤ, pos, natAbs}
-use lib.Signed.{ltZ}
+use lib.IntN.{ℤ, natAbs}
 use Rattle.algebra.specs.Sum.{sum, sumℕ, _⋯_}
 use Rattle.algebra.specs.Triangle.{triangle}
-use Rattle.forms.specs.Bounds.{Mode, affine, centred, low, high, bent}
+use Rattle.forms.specs.Bounds.{Mode, low, high, bent}
 use Rattle.local.specs.declared.Form.{Form}
 use Rattle.local.specs.declared.Range.{Range}
 use Rattle.local.specs.declared.Spread.{Spread}
-use Rattle.verdicts.specs.declared.Verdict.{Verdict}
-use Rattle.verdicts.specs.declared.Verdict.the-variants.{Above, Below, Open}
+use Rattle.verdicts.specs.Judging.{judged}
 use Rattle.local.specs.Horner.{row-of}
 use Rattle.local.specs.Table.{held}
-
--- a mode: 0 modified affine, 1 centred form. Any other number is refused by 5 before this is asked
-abbrev pub mode-of : ℕ → Mode
-mode-of zero = affine
-mode-of (suc n) = centred
-
--- the verdict is above (lower bound > 0), below (upper bound < 0), or open; each carries both bounds
-unfoldable pub judged : ℤ → ℤ → Verdict
-judged lower upper = cond (ltZ (pos 0) lower) (Above lower upper) (cond (ltZ upper (pos 0)) (Below lower upper) (Open lower upper))
 
 -- ---- the sums over the table of what g(a,b) adds to each bound and to the bend
 abbrev pub lower-of : ℕ → Mode → (ℕ → ℕ → ℤ) → ℤ

@@ -11,7 +11,9 @@ ghost use mathlib.Core.Bool.{cond};
 ghost use Rattle.local.specs.Horner.{at, row-of};
 ghost use Rattle.local.specs.Table.{held};
 ghost use Rattle.forms.specs.Plane.{even-pair};
-ghost use Rattle.local.specs.Range.{mode-of, judged, part-of, both, Weighable, row-spread-of, Light, table-spread-of, Ranged};
+ghost use Rattle.verdicts.specs.Judging.{judged};
+ghost use Rattle.forms.specs.Bounds.{mode-of};
+ghost use Rattle.local.specs.Range.{part-of, both, Weighable, row-spread-of, Light, table-spread-of, Ranged};
 
 // The even rule: mode 0, a and b both even.
 fn even_rule(mode: u32, a: usize, b: usize) -> bool

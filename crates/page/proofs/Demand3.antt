@@ -22,7 +22,7 @@ use Rattle.forms.proofs.Plane.{both, pair-index, in-plane, value-pair, lower-fo
 use Rattle.forms.proofs.Size.{local-size, lower-size, upper-size, bend-size, box-limited, value-in-box-size}
 use Rattle.verdicts.specs.declared.Verdict.{Verdict}
 use Rattle.verdicts.specs.declared.Verdict.the-variants.{Above, Below, Open}
-use Rattle.local.specs.Range.{judged}
+use Rattle.verdicts.specs.Judging.{judged}
 use Rattle.page.specs.Sheet.{Sheet, A}
 use Rattle.page.specs.Scaled.{F, IsCell, InCell, half-side, U0, V0}
 use Rattle.page.specs.Bounds.{lower, upper, bend}

@@ -11,7 +11,7 @@ use Rattle.algebra.specs.MinMax.{minℤ, maxℤ}
 use Rattle.algebra.specs.Triangle.{row-start}
 use Rattle.algebra.specs.Digits.{digits}
 use Rattle.forms.specs.Bounds.{affine, centred}
-use Rattle.local.specs.Range.{judged}
+use Rattle.verdicts.specs.Judging.{judged}
 use Rattle.verdicts.specs.declared.Verdict.the-variants.{Above, Below, Open}
 use Rattle.page.specs.Sheet.{Sheet, A}
 use Rattle.page.specs.Scaled.{F, value-at, half-side, U0, V0, InCell}

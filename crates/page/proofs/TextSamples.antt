@@ -8,7 +8,7 @@ use Rattle.algebra.specs.Sum.{sum, sumℕ, run, span, _⋯_}
 use Rattle.algebra.specs.Binomial.{choose}
 use Rattle.algebra.specs.MinMax.{minℤ, maxℤ}
 use Rattle.algebra.specs.Triangle.{row-start}
-use Rattle.local.specs.Range.{judged}
+use Rattle.verdicts.specs.Judging.{judged}
 use Rattle.verdicts.specs.Walking.{those, walking-order, colour, visited, coloured}
 use Rattle.page.specs.Sheet.{A}
 use Rattle.page.specs.LocalForm.{G}

@@ -8,7 +8,7 @@ use Rattle.algebra.specs.MinMax.{minℤ, maxℤ}
 use Rattle.forms.specs.Bounds.{Mode}
 use Rattle.forms.specs.Plane.{even-pair}
 use Rattle.verdicts.specs.declared.Verdict.{Verdict}
-use Rattle.local.specs.Range.{judged}
+use Rattle.verdicts.specs.Judging.{judged}
 use Rattle.page.specs.Sheet.{Sheet}
 use Rattle.page.specs.LocalForm.{G}
 

@@ -6,7 +6,7 @@ use lib.IntN.{ℤ, pos, natAbs}
 use lib.ListN.{length, getD}
 use Rattle.algebra.specs.Triangle.{place}
 -- a mode: 0 modified affine, 1 centred form. It stands apart from the sheet, since check and point calls take none
-pub use Rattle.local.specs.Range.{mode-of}
+pub use Rattle.forms.specs.Bounds.{mode-of}
 
 pub record Sheet : Type 0 where
   -- a degree d

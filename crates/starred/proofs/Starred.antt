@@ -6,14 +6,14 @@ use Rattle.algebra.specs.Binomial.{choose}
 use Rattle.algebra.specs.MinMax.{minℤ, maxℤ}
 use Rattle.algebra.specs.Triangle.{row-start}
 use Rattle.algebra.specs.Digits.{digits}
-use Rattle.local.specs.Range.{judged}
+use Rattle.verdicts.specs.Judging.{judged}
 use Rattle.page.specs.Scaled.{F}
 use Rattle.page.specs.LocalForm.{G}
 use Rattle.page.specs.Bounds.{lower, upper, bend}
 use Rattle.verdicts.specs.Walking.{colour, raster, visited, coloured}
 use Rattle.page.specs.Weight.{weight}
 use Rattle.page.specs.Refusals.{table, first}
-use Rattle.sheet.specs.Answers.{checked, valued, bounded}
+use Rattle.probe.specs.Answers.{checked, valued, bounded}
 use Rattle.starred.specs.Starred.{holds, starred, all-hold, StarredHold}
 
 pub starred-hold : StarredHold

@@ -10,7 +10,7 @@ use lib.Signed.{leZ}
 use Rattle.page.specs.Sheet.{Sheet, mode-of}
 use Rattle.page.specs.Bounds.{verdict}
 use Rattle.verdicts.specs.Walking.{visited, coloured, raster}
-use Rattle.sheet.specs.Answers.{checked, states-weight, valued, states-value, bounded, states-bounds}
+use Rattle.probe.specs.Answers.{checked, states-weight, valued, states-value, bounded, states-bounds}
 
 -- ---- a figure of a sheet: what a call answers, or a count of the walk. The mode comes first; a cell is level, column, row
 pub data Figure : Type 0 where

@@ -21,7 +21,7 @@ use Rattle.verdicts.proofs.Cells.{walk-induction, coloured-cleared, col
 use Rattle.verdicts.proofs.Colours.{colour-of-small}
 use Rattle.verdicts.proofs.Parts.{four-cong, length-in-turn, those-in-turn}
 use Rattle.verdicts.proofs.Tallies.{coloured-is}
-use Rattle.verdicts.proofs.Listing.{listing-is}
+use Rattle.verdicts.proofs.Listing.{records-are}
 
 -- ---- in the raster
 -- how many have the property, as a sum
@@ -93,4 +93,4 @@ coloured-records v = walk-induction v (λ level n p q. length (those is-coloured
     ∙ sym (coloured-open v level p q s n))
 
 pub coloured-counted : ColouredCounted
-coloured-counted v k = (in-raster v k, sym (coloured-is v k) ∙ sym (coloured-records v 0 k 0 0) ∙ ap (λ l. length (those is-coloured l)) (listing-is v k))
+coloured-counted v k = (in-raster v k, sym (coloured-is v k) ∙ sym (coloured-records v 0 k 0 0) ∙ ap (λ l. length (those is-coloured l)) (records-are v k))

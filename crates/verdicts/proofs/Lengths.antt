@@ -13,7 +13,7 @@ use Rattle.verdicts.proofs.Cells.{walk-induction, visited-cleared, visi
 use Rattle.verdicts.proofs.Parts.{four-cong, length-in-turn}
 use Rattle.verdicts.proofs.Bounds.{records-bound}
 use Rattle.verdicts.proofs.Tallies.{visited-is, visited-by-cuts}
-use Rattle.verdicts.proofs.Listing.{listing-is}
+use Rattle.verdicts.proofs.Listing.{records-are}
 
 pub raster-long : RasterLong
 unfolding raster span
@@ -33,7 +33,7 @@ records-visited v = walk-induction v (λ level n p q. 4 * length (records-from v
     ))
 
 pub listing-long : ListingLong
-listing-long v k = rw (← listing-is v k) (
+listing-long v k = rw (← records-are v k) (
   omega (arith, records-visited v 0 k 0 0, visited-is v k, visited-by-cuts v k),
   omega (arith, records-visited v 0 k 0 0),
   records-bound v 0 k 0 0,

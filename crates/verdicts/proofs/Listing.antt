@@ -10,7 +10,7 @@ use lib.Dec.{eqb}
 use lib.Pow.{pow-pos}
 use borrow.Author.Tests.{eq-eqb, ne-eqb}
 use Rattle.algebra.proofs.Run.{span-none}
-use Rattle.verdicts.specs.Walking.{Verdicts, is-open, colour-of, Cell, cell, in-turn, walking-order, those, record-of, listing, record-at}
+use Rattle.verdicts.specs.Walking.{Verdicts, is-open, colour-of, Cell, cell, in-turn, walking-order, those, record-of, records, record-at}
 use Rattle.verdicts.specs.Operational.{records-from}
 use Rattle.verdicts.proofs.Cells.{levels-below, walk-induction, records-cleared, records-last, records-open}
 use Rattle.verdicts.proofs.Lists.{those-first, those-cong, those-none}
@@ -126,6 +126,6 @@ listing-under v k = walk-induction v (λ level n p q. level + n ≡ k → listin
     ∙ in-turn-cong _ _ p q (λ a b i j. h a b i j (omega arith))
     ∙ sym (records-open v level p q s n))
 
-pub listing-is : (v : Verdicts) (k : ℕ) → records-from v 0 k 0 0 ≡ listing v k
-unfolding listing
-listing-is v k = sym (listing-under v k 0 k 0 0 (Nat.zero-add k))
+pub records-are : (v : Verdicts) (k : ℕ) → records-from v 0 k 0 0 ≡ records v k
+unfolding records
+records-are v k = sym (listing-under v k 0 k 0 0 (Nat.zero-add k))

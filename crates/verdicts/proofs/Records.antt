@@ -19,7 +19,7 @@ use Rattle.verdicts.proofs.Cells.{walk-induction, records-cleared, reco
 use Rattle.verdicts.proofs.Colours.{colour-is, colour-of-small}
 use Rattle.verdicts.proofs.Lists.{flatMap-one}
 use Rattle.verdicts.proofs.Parts.{half-of, Halves, even, odd, neither, halves, in-turn-cong, those-in-turn, map-in-turn}
-use Rattle.verdicts.proofs.Listing.{listing-is}
+use Rattle.verdicts.proofs.Listing.{records-are}
 use Rattle.verdicts.proofs.Bytes.{row-below}
 
 -- ---- the four parts of a cell cover what the cell covers, each finest cell once
@@ -101,7 +101,7 @@ module _ (k x y : ℕ) where
 
 pub one-record-each : OneRecordEach
 one-record-each v k p q small h i =
-    ap (λ l. unfolded-at k l p q) (sym (listing-is v k))
+    ap (λ l. unfolded-at k l p q) (sym (records-are v k))
     ∙ told-under k p q v small 0 k 0 0 (Nat.zero-add k) (lit< tt) (lit< tt)
     ∙ rw (Nat.div-eq-of-lt h, Nat.div-eq-of-lt i) (ap (λ c. c ∷ []) (colour-is v k p q))
 

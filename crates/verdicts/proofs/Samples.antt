@@ -7,7 +7,7 @@ use lib.IntN.{pos, negsuc}
 use lib.ListN.{getD}
 use Rattle.algebra.specs.Sum.{sumℕ, run, span, _⋯_}
 use Rattle.verdicts.specs.declared.Verdict.the-variants.{Above, Below, Open}
-use Rattle.verdicts.specs.Walking.{Verdicts, colour, raster, visited, coloured, cells-cut, cell, walking-order, those, listing}
+use Rattle.verdicts.specs.Walking.{Verdicts, colour, raster, visited, coloured, cells-cut, cell, walking-order, those, records}
 use Rattle.verdicts.specs.Facts.{unfolded}
 
 -- above right of the diagonal from level 1 on, below left of it, open on it
@@ -35,12 +35,12 @@ order : walking-order 1 0 0 0 ≡ cell 0 0 0 ∷ cell 1 0 0 ∷ cell 1 1 0 ∷ c
 unfolding walking-order
 order = refl
 
-listings : (listing diagonal 1 ≡ 65_537 ∷ 65_542 ∷ 66_051 ∷ 66_053 ∷ []) × (listing whole 1 ≡ 2 ∷ [])
-    × (listing diagonal 2 ≡ 131_073 ∷ 131_078 ∷ 131_587 ∷ 131_589 ∷ 65_542 ∷ 66_051 ∷ 132_105 ∷ 132_110 ∷ 132_619 ∷ 132_621 ∷ [])
-unfolding run span walking-order those listing
+listings : (records diagonal 1 ≡ 65_537 ∷ 65_542 ∷ 66_051 ∷ 66_053 ∷ []) × (records whole 1 ≡ 2 ∷ [])
+    × (records diagonal 2 ≡ 131_073 ∷ 131_078 ∷ 131_587 ∷ 131_589 ∷ 65_542 ∷ 66_051 ∷ 132_105 ∷ 132_110 ∷ 132_619 ∷ 132_621 ∷ [])
+unfolding run span walking-order those records
 listings = (refl, refl, refl)
 
 -- the records tell what the raster tells
-stories : (unfolded 2 (listing diagonal 2) ≡ raster diagonal 2) × (unfolded 1 (listing whole 1) ≡ raster whole 1)
-unfolding run span _⋯_ colour raster walking-order those listing unfolded flatMap
+stories : (unfolded 2 (records diagonal 2) ≡ raster diagonal 2) × (unfolded 1 (records whole 1) ≡ raster whole 1)
+unfolding run span _⋯_ colour raster walking-order those records unfolded flatMap
 stories = (refl, refl)

@@ -10,7 +10,7 @@ use lib.ListN.{length, getD}
 use Rattle.algebra.specs.Sum.{span}
 use Rattle.verdicts.specs.declared.Verdict.{Verdict}
 use Rattle.verdicts.specs.declared.Verdict.the-variants.{Above, Below}
-use Rattle.verdicts.specs.Walking.{Verdicts, enclosing, is-open, is-visited, colour, raster, visited, coloured, cells-cut, those, listing}
+use Rattle.verdicts.specs.Walking.{Verdicts, enclosing, is-open, is-visited, colour, raster, visited, coloured, cells-cut, those, records}
 
 -- visited is 1 plus 4 times the number of cells cut, and lies between 1 and (4^(k+1) − 1)/3
 abbrev pub VisitedByCuts : Type 0
@@ -39,18 +39,18 @@ covers k p q r = eqb (p / 2 ^ (k - level-in r)) (column-in r) && eqb (q / 2 ^ (k
 
 -- the colours of the records that cover it
 abbrev pub unfolded-at : ℕ → List ℕ → ℕ → ℕ → List ℕ
-unfolded-at k records p q = map colour-in (those (covers k p q) records)
+unfolded-at k rs p q = map colour-in (those (covers k p q) rs)
 
 -- each finest cell is covered by one record, and that has its colour
 abbrev pub OneRecordEach : Type 0
-OneRecordEach = (v : Verdicts) (k p q : ℕ) → k ≤ 7 → p < 2 ^ k → q < 2 ^ k → unfolded-at k (listing v k) p q ≡ colour v k p q ∷ []
+OneRecordEach = (v : Verdicts) (k p q : ℕ) → k ≤ 7 → p < 2 ^ k → q < 2 ^ k → unfolded-at k (records v k) p q ≡ colour v k p q ∷ []
 
 -- unfolding the records gives the raster
 unfoldable pub unfolded : ℕ → List ℕ → List ℕ
-unfolded k records = flatMap (λ n. unfolded-at k records (n % 2 ^ k) (n / 2 ^ k)) (span 0 (4 ^ k))
+unfolded k rs = flatMap (λ n. unfolded-at k rs (n % 2 ^ k) (n / 2 ^ k)) (span 0 (4 ^ k))
 
 abbrev pub SameStory : Type 0
-SameStory = (v : Verdicts) (k : ℕ) → k ≤ 7 → unfolded k (listing v k) ≡ raster v k
+SameStory = (v : Verdicts) (k : ℕ) → k ≤ 7 → unfolded k (records v k) ≡ raster v k
 
 -- the raster's byte at q·2^k + p is the colour of the finest cell at column p, row q
 abbrev pub RasterByte : Type 0
@@ -61,11 +61,11 @@ abbrev pub RasterLong : Type 0
 RasterLong = (v : Verdicts) (k : ℕ) → length (raster v k) ≡ 4 ^ k
 
 abbrev pub ListingLong : Type 0
-ListingLong = (v : Verdicts) (k : ℕ) → (length (listing v k) + cells-cut v k ≡ visited v k) × (1 ≤ length (listing v k)) × (length (listing v k) ≤ 4 ^ k)
+ListingLong = (v : Verdicts) (k : ℕ) → (length (records v k) + cells-cut v k ≡ visited v k) × (1 ≤ length (records v k)) × (length (records v k) ≤ 4 ^ k)
 
 -- coloured is the number of the raster's bytes that are 1, and of the listing's records whose colour is 1
 abbrev pub ColouredCounted : Type 0
-ColouredCounted = (v : Verdicts) (k : ℕ) → (coloured v k ≡ length (those (λ b. eqb b 1) (raster v k))) × (coloured v k ≡ length (those (λ r. eqb (colour-in r) 1) (listing v k)))
+ColouredCounted = (v : Verdicts) (k : ℕ) → (coloured v k ≡ length (those (λ b. eqb b 1) (raster v k))) × (coloured v k ≡ length (those (λ r. eqb (colour-in r) 1) (records v k)))
 
 -- ---- why a finest cell has its colour
 -- a cell covers the finest cell at column p, row q, that is encloses it or is that cell itself; it is visited, and its verdict is of this kind

@@ -97,5 +97,5 @@ abbrev pub record-at : Verdicts → Cell → ℕ
 record-at v c = record-of (colour-of (v (c .level) (c .column) (c .row) ∷ [])) (c .level) (c .column) (c .row)
 
 -- the listing: one record per cleared or coloured cell in walking order
-unfoldable pub listing : Verdicts → ℕ → List ℕ
-listing v k = map (record-at v) (those (is-listed v k) (walking-order k 0 0 0))
+unfoldable pub records : Verdicts → ℕ → List ℕ
+records v k = map (record-at v) (those (is-listed v k) (walking-order k 0 0 0))

@@ -6,7 +6,7 @@ use native.Mathlib.Nat as Nat
 use native.Mathlib.Omega.{arith}
 use lib.ListN.{length, getD, drop, List·getD-append}
 use lib.Seq.{take-append-seam}
-use Rattle.verdicts.specs.Walking.{raster, listing}
+use Rattle.verdicts.specs.Walking.{raster, records}
 use Rattle.verdicts.proofs.Lengths.{raster-long, listing-long}
 use Rattle.verdicts.proofs.Bytes.{byte-below, raster-byte}
 use Rattle.verdicts.proofs.Records.{same-story, one-record-each}
@@ -42,7 +42,7 @@ module _ (S : Sheet) (mode : ℕ) (old : List ℕ) (e : refusal (to-walk S mode 
   unfolding rastered
   raster-place = sym (unless-none _ _ _ e)
 
-  listing-place : recorded S mode old ≡ listing (verdicts S mode) (S .k) ++ drop (length (listing (verdicts S mode) (S .k))) old
+  listing-place : recorded S mode old ≡ records (verdicts S mode) (S .k) ++ drop (length (records (verdicts S mode) (S .k))) old
   unfolding recorded
   listing-place = sym (unless-none _ _ _ e)
 
@@ -50,7 +50,7 @@ module _ (S : Sheet) (mode : ℕ) (old : List ℕ) (e : refusal (to-walk S mode 
   raster-room : 4 ^ S .k ≤ length old
   raster-room = walk-passed S mode (length old) e .2
 
-  listing-room : length (listing (verdicts S mode) (S .k)) ≤ length old
+  listing-room : length (records (verdicts S mode) (S .k)) ≤ length old
   listing-room = Nat.le-trans (listing-long (verdicts S mode) (S .k) .2) raster-room
 
 -- ---- the bytes of the raster
@@ -76,14 +76,14 @@ printed-curve S mode old r now h e M N Q o i z =
 pub written-records : WrittenRecords
 unfolding enumerated
 written-records S mode old r now h e =
-    let v = verdicts S mode in let xs = listing v (S .k) in let depth = walk-passed S mode (length old) e .0 .ranges .depth in
+    let v = verdicts S mode in let xs = records v (S .k) in let depth = walk-passed S mode (length old) e .0 .ranges .depth in
     let l : states-listing r .length ≡ length xs = ap (λ t. t .length) (h .1 ∙ sym (unless-none _ _ _ e)) in
     (l, rw (l, h .2 ∙ listing-place S mode old e, take-append-seam xs (drop (length xs) old)) (same-story v (S .k) depth))
 
 -- one record for each finest cell
 pub listed-colour : ListedColour
 listed-colour S mode old r now h e p q a b =
-    let v = verdicts S mode in let xs = listing v (S .k) in
+    let v = verdicts S mode in let xs = records v (S .k) in
     rw (written-records S mode old r now h e .0, h .2 ∙ listing-place S mode old e, take-append-seam xs (drop (length xs) old)) (one-record-each v (S .k) p q (walk-passed S mode (length old) e .0 .ranges .depth) a b)
 
 pub listed-signed : ListedSigned
@@ -104,5 +104,5 @@ later-unchanged S mode old now e =
     let v = verdicts S mode in
     let long = raster-long v (S .k) in (
       λ r h. rw (h .2 ∙ raster-place S mode old e) (over-length (raster v (S .k)) old long (raster-room S mode old e), over-later (raster v (S .k)) old long),
-      λ r h. rw (h .2 ∙ listing-place S mode old e) (over-length (listing v (S .k)) old refl (listing-room S mode old e), over-later (listing v (S .k)) old refl),
+      λ r h. rw (h .2 ∙ listing-place S mode old e) (over-length (records v (S .k)) old refl (listing-room S mode old e), over-later (records v (S .k)) old refl),
     )

@@ -3,7 +3,7 @@ use mathlib.Core.Path.{_≡_, sym, _∙_, ap, ap₂}
 use mathlib.Core.List.{List, _++_}
 use Prim.Native.Nat.{ℕ, _^_}
 use lib.ListN.{length, drop}
-use Rattle.verdicts.specs.Walking.{raster, listing, visited, coloured}
+use Rattle.verdicts.specs.Walking.{raster, records, visited, coloured}
 use Rattle.page.specs.Sheet.{Sheet}
 use Rattle.page.specs.Refusals.{refusal, to-walk}
 use Rattle.page.proofs.Rows.{unless-ap, unless-refused, unless-none}
@@ -39,11 +39,11 @@ module _ (S : Sheet) (mode : ℕ) (old : List ℕ) (e : refusal (to-walk S mode 
   unfolding tallied rastered
   raster-done w = raster-kept S mode old (ap₂ Tallied.Tally visits colours ∙ unless-none Tallied.Refused _ _ e) (w ∙ unless-none _ _ _ e)
 
-  pub listing-done : {l : ℕ} → l ≡ length (listing (verdicts S mode) (S .k)) → now ≡ listing (verdicts S mode) (S .k) ++ drop (length (listing (verdicts S mode) (S .k))) old
+  pub listing-done : {l : ℕ} → l ≡ length (records (verdicts S mode) (S .k)) → now ≡ records (verdicts S mode) (S .k) ++ drop (length (records (verdicts S mode) (S .k))) old
       → ListingPromise S mode old (Listed.Records l v c) now
   unfolding listed recorded
   listing-done {l} long w =
-      listing-kept S mode old (ap (λ n. Listed.Records n v c) long ∙ ap₂ (Listed.Records (length (listing (verdicts S mode) (S .k)))) visits colours ∙ unless-none Listed.Refused _ _ e) (w ∙ unless-none _ _ _ e)
+      listing-kept S mode old (ap (λ n. Listed.Records n v c) long ∙ ap₂ (Listed.Records (length (records (verdicts S mode) (S .k)))) visits colours ∙ unless-none Listed.Refused _ _ e) (w ∙ unless-none _ _ _ e)
 
 -- ---- and by nothing else
 pub one-raster : OneRaster

@@ -13,12 +13,12 @@ use lib.Pow.{pow-pos}
 use lib.Seq.{getD-append-add, getD-drop, ext-getD, sets, sets-eq}
 use Rattle.algebra.proofs.Choice.{and-both}
 use Rattle.algebra.proofs.Power.{*-pow}
-use Rattle.verdicts.specs.Walking.{Verdicts, raster, listing, visited, coloured}
+use Rattle.verdicts.specs.Walking.{Verdicts, raster, records, visited, coloured}
 use Rattle.verdicts.specs.Operational.{visited-from, coloured-from, records-from, colour-from}
 use Rattle.verdicts.proofs.Colours.{colour-is}
 use Rattle.verdicts.proofs.Tallies.{visited-is, coloured-is}
 use Rattle.verdicts.proofs.Lengths.{raster-long, listing-long}
-use Rattle.verdicts.proofs.Listing.{listing-is}
+use Rattle.verdicts.proofs.Listing.{records-are}
 use Rattle.verdicts.proofs.Bytes.{row-below, raster-at}
 use Rattle.walk.specs.declared.Seen.{Seen}
 use Rattle.walk.specs.declared.Entered.{Entered}
@@ -66,7 +66,7 @@ counted-whole v k r c = (c .visits ∙ ap (λ n. visited-from v 0 n 0 0) (Nat.su
 
 -- ---- the listing
 pub listing-whole : (v : Verdicts) (k : ℕ) (old now : List ℕ) (r : Entered) → 4 ^ k ≤ length old → Recorded v k 0 0 0 0 old now r
-    → (r .end ≡ length (listing v k)) × (now ≡ listing v k ++ drop (length (listing v k)) old)
+    → (r .end ≡ length (records v k)) × (now ≡ records v k ++ drop (length (records v k)) old)
 listing-whole v k old now r room h =
-    let e : records-from v 0 (k - 0) 0 0 ≡ listing v k = ap (λ n. records-from v 0 n 0 0) (Nat.sub-zero k) ∙ listing-is v k in let l = listing-long v k .2 in
-    (h .ends ∙ Nat.zero-add (length (records-from v 0 (k - 0) 0 0)) ∙ ap length e, h .written ∙ ap (sets old 0) e ∙ sets-eq (listing v k) old 0 (omega arith) ∙ ap (λ n. listing v k ++ drop n old) (Nat.zero-add (length (listing v k))))
+    let e : records-from v 0 (k - 0) 0 0 ≡ records v k = ap (λ n. records-from v 0 n 0 0) (Nat.sub-zero k) ∙ records-are v k in let l = listing-long v k .2 in
+    (h .ends ∙ Nat.zero-add (length (records-from v 0 (k - 0) 0 0)) ∙ ap length e, h .written ∙ ap (sets old 0) e ∙ sets-eq (records v k) old 0 (omega arith) ∙ ap (λ n. records v k ++ drop n old) (Nat.zero-add (length (records v k))))

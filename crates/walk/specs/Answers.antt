@@ -2,7 +2,7 @@
 use mathlib.Core.List.{List, _++_}
 use Prim.Native.Nat.{ℕ, _^_}
 use lib.ListN.{length, drop}
-use Rattle.verdicts.specs.Walking.{Verdicts, raster, listing, visited, coloured}
+use Rattle.verdicts.specs.Walking.{Verdicts, raster, records, visited, coloured}
 use Rattle.page.specs.Sheet.{Sheet, mode-of}
 use Rattle.page.specs.Bounds.{verdict}
 use Rattle.page.specs.Refusals.{to-walk, refusal, unless}
@@ -40,12 +40,12 @@ reckoned S mode n =
 
 -- ---- listing, with its length and tally
 unfoldable pub listed : Sheet → ℕ → ℕ → Listed
-listed S mode n = unless (refusal (to-walk S mode n)) Listed.Refused (Listed.Records (length (listing (verdicts S mode) (S .k))) (visited (verdicts S mode) (S .k)) (coloured (verdicts S mode) (S .k)))
+listed S mode n = unless (refusal (to-walk S mode n)) Listed.Refused (Listed.Records (length (records (verdicts S mode) (S .k))) (visited (verdicts S mode) (S .k)) (coloured (verdicts S mode) (S .k)))
 
 -- the place afterwards: the records, and after them the entries as they were
 unfoldable pub recorded : Sheet → ℕ → List ℕ → List ℕ
 recorded S mode old =
-    unless (refusal (to-walk S mode (length old))) (λ n. old) (listing (verdicts S mode) (S .k) ++ drop (length (listing (verdicts S mode) (S .k))) old)
+    unless (refusal (to-walk S mode (length old))) (λ n. old) (records (verdicts S mode) (S .k) ++ drop (length (records (verdicts S mode) (S .k))) old)
 
 -- the number, the length and the tally that each case states, and those of the page
 pub record Enumerated : Type 0 where
@@ -61,4 +61,4 @@ states-listing (Listed.Refused n) = record { number = n; length = 0; visited = 0
 unfoldable pub enumerated : Sheet → ℕ → ℕ → Enumerated
 enumerated S mode n =
     unless (refusal (to-walk S mode n)) (λ n. record { number = n; length = 0; visited = 0; coloured = 0 })
-    (record { number = 0; length = length (listing (verdicts S mode) (S .k)); visited = visited (verdicts S mode) (S .k); coloured = coloured (verdicts S mode) (S .k) })
+    (record { number = 0; length = length (records (verdicts S mode) (S .k)); visited = visited (verdicts S mode) (S .k); coloured = coloured (verdicts S mode) (S .k) })

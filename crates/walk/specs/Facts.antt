@@ -5,7 +5,7 @@ use Prim.Native.Nat.{ℕ, _+_, _*_, _^_, _≤_, _<_}
 use lib.IntN.{ℤ, pos}
 use lib.ListN.{length, getD, take}
 use lib.Signed.{_<ℤ_}
-use Rattle.verdicts.specs.Walking.{colour, raster, listing}
+use Rattle.verdicts.specs.Walking.{colour, raster, records}
 use Rattle.verdicts.specs.Facts.{unfolded-at, unfolded}
 use Rattle.page.specs.Sheet.{Sheet}
 use Rattle.page.specs.Scaled.{InCell, value-at, MeetsCurve}
@@ -58,7 +58,7 @@ PrintedCurve = (S : Sheet) (mode : ℕ) (old : List ℕ) (r : Tallied) (now : Li
 -- ---- the records that `listing` leaves where nothing is refused: as many as it answers, they unfold to the raster
 abbrev pub WrittenRecords : Type 0
 WrittenRecords = (S : Sheet) (mode : ℕ) (old : List ℕ) (r : Listed) (now : List ℕ) → ListingPromise S mode old r now → refusal (to-walk S mode (length old)) ≡ 0 →
-    (states-listing r .length ≡ length (listing (verdicts S mode) (S .k))) × (unfolded (S .k) (take (states-listing r .length) now) ≡ raster (verdicts S mode) (S .k))
+    (states-listing r .length ≡ length (records (verdicts S mode) (S .k))) × (unfolded (S .k) (take (states-listing r .length) now) ≡ raster (verdicts S mode) (S .k))
 
 -- each finest cell is covered by one of them, which has its colour
 abbrev pub ListedColour : Type 0
@@ -82,4 +82,4 @@ RefusedUnchanged = (S : Sheet) (mode : ℕ) (old now : List ℕ) → (refusal (t
 abbrev pub LaterUnchanged : Type 0
 LaterUnchanged = (S : Sheet) (mode : ℕ) (old now : List ℕ) → refusal (to-walk S mode (length old)) ≡ 0 →
     ((r : Tallied) → RasterPromise S mode old r now → (length now ≡ length old) × ((i : ℕ) → 4 ^ S .k ≤ i → getD now i 0 ≡ getD old i 0))
-    × ((r : Listed) → ListingPromise S mode old r now → (length now ≡ length old) × ((i : ℕ) → length (listing (verdicts S mode) (S .k)) ≤ i → getD now i 0 ≡ getD old i 0))
+    × ((r : Listed) → ListingPromise S mode old r now → (length now ≡ length old) × ((i : ℕ) → length (records (verdicts S mode) (S .k)) ≤ i → getD now i 0 ≡ getD old i 0))

@@ -4,7 +4,7 @@ use mathlib.Core.List.{[], _∷_, _++_}
 use Prim.Native.Nat.{ℕ, _^_, _≤_, _<_}
 use native.Mathlib.Omega.{arith}
 use lib.Pow.{pow-mono}
-use Rattle.verdicts.specs.Walking.{Verdicts, Cell, walking-order, those, is-listed, record-of, record-at, listing, visited, coloured}
+use Rattle.verdicts.specs.Walking.{Verdicts, Cell, walking-order, those, is-listed, record-of, record-at, records, visited, coloured}
 use Rattle.verdicts.proofs.Colours.{colour-of-small}
 use Rattle.verdicts.proofs.Lists.{those-member, flatMap-map}
 use Rattle.verdicts.proofs.Listing.{walked-on-grid}
@@ -23,7 +23,7 @@ cell-tells v c l i j =
     record-tells _ (c .level) (c .column) (c .row) (colour-of-small (v (c .level) (c .column) (c .row) ∷ [])) (omega arith) (omega arith)
 
 pub records-tell : RecordsTell
-unfolding records-text listing listing-text
+unfolding records-text records listing-text
 records-tell v k h = ap (λ l. l ++ total-line (visited v k) (coloured v k)) (flatMap-map (record-at v) record-text (those (is-listed v k) (walking-order k 0 0 0)) (λ c m.
     let (l, i, j) = walked-on-grid k c (those-member (is-listed v k) (walking-order k 0 0 0) c m) in
     cell-tells v c (omega arith) i j))

@@ -3,7 +3,7 @@ use mathlib.Core.Path.{sym}
 use Prim.Native.Nat.{_≤_}
 use lib.ListN.{length}
 use lib.Seq.{length-take-le}
-use Rattle.text.proofs.Promises.{lies-in-fresh}
+use Rattle.reply.proofs.Promises.{lies-in-fresh}
 use borrow.Author.Needs.{needs}
 use Rattle.listing.proofs.respond.Statement.{statement}
 use Rattle.listing.proofs.respond.Tie as tie

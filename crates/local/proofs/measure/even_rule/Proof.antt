@@ -4,7 +4,7 @@ use mathlib.Core.Bool.{false}
 use Prim.Native.Nat.{ℕ, zero, suc, _%_}
 use borrow.Author.Tests.{eq-eqb, ne-eqb}
 use Rattle.forms.specs.Plane.{even-pair}
-use Rattle.local.specs.Range.{mode-of}
+use Rattle.forms.specs.Bounds.{mode-of}
 use Rattle.local.proofs.measure.even_rule.Statement.{statement}
 use Rattle.local.proofs.measure.even_rule.Tie as tie
 

@@ -7,7 +7,8 @@ use mir.Val.{toZ, ofZ}
 use mir.Facts.{toZ-ofZ}
 use Rattle.numbers.proofs.Machine.{read64}
 use Rattle.local.specs.Table.{held}
-use Rattle.local.specs.Range.{mode-of, lower-of, upper-of}
+use Rattle.forms.specs.Bounds.{mode-of}
+use Rattle.local.specs.Range.{lower-of, upper-of}
 use Rattle.local.proofs.Ranges.{read-fall, read-rise, fall-fits, rise-fits, lower-fits, upper-fits, lower-is, upper-is}
 use Rattle.local.proofs.measure.local_range.Statement.{statement}
 use Rattle.local.proofs.measure.local_range.Tie as tie

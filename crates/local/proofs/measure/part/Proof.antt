@@ -2,7 +2,7 @@
 use mathlib.Core.Path.{sym, _∙_}
 use borrow.Author.Needs.{needs}
 use mir.Facts.{toZ-ofZ}
-use Rattle.local.specs.Range.{mode-of}
+use Rattle.forms.specs.Bounds.{mode-of}
 use Rattle.local.proofs.Parts.{part-centre, part-below, part-above, part-both}
 use Rattle.local.proofs.measure.part.Statement.{statement}
 use Rattle.local.proofs.measure.part.Tie as tie

@@ -6,7 +6,8 @@ use lib.IntN.{natAbs}
 use Rattle.algebra.specs.Sum.{_⋯_}
 use Rattle.numbers.proofs.Machine.{read64}
 use Rattle.local.specs.Horner.{row-of}
-use Rattle.local.specs.Range.{mode-of, part-of}
+use Rattle.forms.specs.Bounds.{mode-of}
+use Rattle.local.specs.Range.{part-of}
 use Rattle.local.proofs.Spreads.{summed, summed-start, summed-next, summed-room, parts-of, parts-small, place-small}
 use Rattle.local.proofs.measure.row_spread.Statement.{statement}
 use Rattle.local.proofs.measure.row_spread.Tie as tie

@@ -8,7 +8,8 @@ use Rattle.algebra.specs.Triangle.{row-start, place}
 use Rattle.algebra.proofs.Places.{row-start-zero, row-start-next}
 use Rattle.local.specs.Horner.{at, row-of}
 use Rattle.local.specs.Table.{held}
-use Rattle.local.specs.Range.{mode-of, row-spread-of}
+use Rattle.forms.specs.Bounds.{mode-of}
+use Rattle.local.specs.Range.{row-spread-of}
 use Rattle.local.proofs.Spreads.{summed, summed-start, summed-next, summed-room, rows-of, rows-small, light-row}
 use Rattle.local.proofs.measure.table_spread.Statement.{statement}
 use Rattle.local.proofs.measure.table_spread.Tie as tie

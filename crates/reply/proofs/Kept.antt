@@ -1,0 +1,69 @@
+-- What a text comes to, by the number that reading it answers.
+use mathlib.Core.Path.{_≡_, refl, sym, _∙_, ap, subst}
+use mathlib.Core.Bool.{Bool, true, false, cond}
+use mathlib.Core.List.{List}
+use Prim.Native.Nat.{ℕ, zero, suc}
+use native.Mathlib.Omega.{arith}
+use lib.Dec.{ltb}
+use lib.ListN.{length}
+use Rattle.page.specs.Refusals.{refusal, unless}
+use Rattle.page.specs.SheetText.{Said, Text, bad-line, well-formed, lines, text-of, to-read, Outcome, refused, accepted, outcome-of, outcome}
+use Rattle.page.specs.ListingText.{refused-line, text-after}
+use Rattle.reading.specs.declared.Reading.{Reading}
+use Rattle.reading.specs.Answers.{reading-of, reading}
+use Rattle.reading.specs.Promises.{ReadPromise}
+use Rattle.writing.specs.Steps.{Put}
+use Rattle.reply.specs.Steps.{FromText}
+
+-- ---- a refusal has a number, and an accepted text passes the table
+abbrev Kept : Outcome → Type 0
+Kept (refused n line) = n ≡ 0 → ⊥
+Kept (accepted w) = refusal (to-read w) ≡ 0
+
+kept-by : (w : Said) (n : ℕ) → refusal (to-read w) ≡ n → Kept (unless n (λ m. refused m 0) (accepted w))
+kept-by w zero e = e
+kept-by w (suc n) e = λ z. omega arith
+
+kept-text : (t : Text) → Kept (outcome-of t)
+kept-text (bad-line n) = λ z. omega arith
+kept-text (well-formed w) = kept-by w (refusal (to-read w)) refl
+
+kept : (text : List ℕ) → Kept (outcome text)
+unfolding outcome
+kept text = by (ltb 8_192 (length text))
+  where
+    by : (b : Bool) → Kept (cond b (refused 11 0) (outcome-of (text-of (lines text))))
+    by true = λ z. omega arith
+    by false = kept-text (text-of (lines text))
+
+-- ---- so where the number is 0 there is a sheet, and else a refusal
+from-outcome : (o : Outcome) → Kept o → reading-of o .refusal ≡ 0 → FromText (reading-of o)
+from-outcome (refused n line) k e = absurd (k e)
+from-outcome (accepted w) k e = record { said = w; passed = k; read = refl }
+
+-- the sheet is what reading the text answers
+module _ (text : List ℕ) {sheet : Reading} (e : ReadPromise text sheet) where
+  is-read : sheet ≡ reading-of (outcome text)
+  unfolding reading
+  is-read = e
+
+  pub from-text : sheet .refusal ≡ 0 → FromText sheet
+  from-text z = subst FromText (sym is-read) (from-outcome (outcome text) (kept text) (sym (ap (λ s. s .refusal) is-read) ∙ z))
+
+module _ {old now : List ℕ} {r : ℕ} where
+  listed-after : (o : Outcome) → Kept o → reading-of o .refusal ≡ 0 → ((w : Said) → refusal (to-read w) ≡ 0 → reading-of o ≡ reading-of (accepted w) → Put 0 (text-after (accepted w)) old now r) → Put 0 (text-after o) old now r
+  listed-after (refused n line) k e f = absurd (k e)
+  listed-after (accepted w) k e f = f w k refl
+
+  pub listed-text : (text : List ℕ) {sheet : Reading} → ReadPromise text sheet → sheet .refusal ≡ 0
+      → ((w : Said) → refusal (to-read w) ≡ 0 → sheet ≡ reading-of (accepted w) → Put 0 (text-after (accepted w)) old now r) → Put 0 (text-after (outcome text)) old now r
+  listed-text text e z f = let s = is-read text e in listed-after (outcome text) (kept text) (sym (ap (λ t. t .refusal) s) ∙ z) (λ w p q. f w p (s ∙ q))
+
+  refused-after : (o : Outcome) → (reading-of o .refusal ≡ 0 → ⊥) → Put 0 (refused-line (reading-of o .refusal) (reading-of o .line)) old now r → Put 0 (text-after o) old now r
+  refused-after (refused n line) h p = p
+  refused-after (accepted w) h p = absurd (h refl)
+
+  pub refused-text : (text : List ℕ) {sheet : Reading} → ReadPromise text sheet → (sheet .refusal ≡ 0 → ⊥) → Put 0 (refused-line (sheet .refusal) (sheet .line)) old now r → Put 0 (text-after (outcome text)) old now r
+  refused-text text e h p =
+      let s = is-read text e in
+      refused-after (outcome text) (λ z. h (ap (λ t. t .refusal) s ∙ z)) (subst (λ t. Put 0 (refused-line (t .refusal) (t .line)) old now r) s p)
