@@ -26,7 +26,7 @@ use Rattle.forms.specs.Box.{InBox, Signs, corner}
 use Rattle.forms.specs.LocalForm.{local}
 use Rattle.forms.specs.Bounds.{Mode, affine, centred, even-rule, low, high, lower, upper, bent, bend}
 use Rattle.forms.specs.Weight.{weight}
-use Rattle.forms.specs.Plane.{pair, plane, page-term, even-pair, AtCorners}
+use Rattle.forms.specs.Plane.{pair, plane, even-pair, AtCorners, moved-term, moved, page-scaled}
 use Rattle.forms.proofs.Vectors.{sum-vectors-zero, sum-vectors-suc}
 use Rattle.forms.proofs.Points.{each-cons}
 use Rattle.forms.proofs.Coordinates.{value-agree}
@@ -66,7 +66,7 @@ module _ (d k : ℕ) (A : ℕ → ℕ → ℤ) where
   value-plane M N Q = simp (value, value-term, scaled, sum-plane, scale-page, *ℤ-idr, *ℤ-assoc, Nat.add-zero, Nat.sub-add-eq)
 
   -- ---- G(a,b): the sum over i ≥ a and j ≥ b
-  all-terms : (U0 V0 : ℤ) (H a b : ℕ) → local (plane d (2 ^ (k + 1)) A) (pair U0 V0) H (a ∷ b ∷ []) ≡ sum (0 ⋯ d) (λ i. sum (0 ⋯ (d - i)) (λ j. page-term d k A U0 V0 H a b i j))
+  all-terms : (U0 V0 : ℤ) (H a b : ℕ) → local (plane d (2 ^ (k + 1)) A) (pair U0 V0) H (a ∷ b ∷ []) ≡ sum (0 ⋯ d) (λ i. sum (0 ⋯ (d - i)) (λ j. moved-term (page-scaled d k A) U0 V0 (pos H) a b i j))
   unfolding local scaled powers chooses _∸_ total
   all-terms U0 V0 H a b = sum-plane d (λ e. _) ∙ sum-cong (0 ⋯ d) (λ i m. sum-cong (0 ⋯ (d - i)) (λ j l.
       let e : d - (i + (j + 0)) ≡ d - i - j = omega arith in let z : a + (b + 0) ≡ a + b = omega arith in
@@ -74,9 +74,10 @@ module _ (d k : ℕ) (A : ℕ → ℕ → ℤ) where
       (ring (A i j ∷ pos (2 ^ ((k + 1) * (d - i - j))) ∷ pos (choose i a) ∷ pos (choose j b) ∷ pow U0 (i - a) ∷ pow V0 (j - b) ∷ pow (pos H) (a + b) ∷ [])
       (λ k s c e u v h. k ⊗ s ⊗ (c ⊗ e) ⊗ (u ⊗ v) ⊗ h ≐ k ⊗ s ⊗ c ⊗ e ⊗ u ⊗ v ⊗ h) tt)))
 
-  pub local-plane : (U0 V0 : ℤ) (H a b : ℕ) → local (plane d (2 ^ (k + 1)) A) (pair U0 V0) H (a ∷ b ∷ []) ≡ sum (a ⋯ d) (λ i. sum (b ⋯ (d - i)) (λ j. page-term d k A U0 V0 H a b i j))
+  pub local-plane : (U0 V0 : ℤ) (H a b : ℕ) → local (plane d (2 ^ (k + 1)) A) (pair U0 V0) H (a ∷ b ∷ []) ≡ moved d (page-scaled d k A) U0 V0 (pos H) a b
+  unfolding moved
   local-plane U0 V0 H a b =
-      let t : ℕ → ℕ → ℤ = λ i j. page-term d k A U0 V0 H a b i j in
+      let t : ℕ → ℕ → ℤ = moved-term (page-scaled d k A) U0 V0 (pos H) a b in
       let first : (i : ℕ) → i < a → sum (0 ⋯ (d - i)) (t i) ≡ pos 0 = λ i l. sum-cong (0 ⋯ (d - i)) (λ j k. simp (choose-over i a l, *ℤ-zero, zero-*ℤ)) ∙ sum-zero (0 ⋯ (d - i)) in
       let second : (i j : ℕ) → j < b → t i j ≡ pos 0 = λ i j l. simp (choose-over j b l, *ℤ-zero, zero-*ℤ) in
       all-terms U0 V0 H a b ∙ sum-⋯-from a d (λ i. sum (0 ⋯ (d - i)) (t i)) first ∙ sum-cong (a ⋯ d) (λ i m. sum-⋯-from b (d - i) (t i) (second i))

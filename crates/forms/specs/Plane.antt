@@ -23,10 +23,6 @@ at-pair A (i ∷ j ∷ e) = A i j
 abbrev pub plane : ℕ → ℕ → (ℕ → ℕ → ℤ) → Polynomial
 plane d S A = record { variables = 2; degree = d; scale = S; coefficient = at-pair A }
 
--- the page's term of G(a,b) from A(i,j), with the scale 2^(k+1)
-abbrev pub page-term : ℕ → ℕ → (ℕ → ℕ → ℤ) → ℤ → ℤ → ℕ → ℕ → ℕ → ℕ → ℕ → ℤ
-page-term d k A U0 V0 H a b i j = A i j *ℤ pos (2 ^ ((k + 1) * (d - i - j))) *ℤ pos (choose i a) *ℤ pos (choose j b) *ℤ pow U0 (i - a) *ℤ pow V0 (j - b) *ℤ pow (pos H) (a + b)
-
 -- the second variable moved about u with the half-side h, and the two variables exchanged
 unfoldable pub turned : ℕ → (ℕ → ℕ → ℤ) → ℤ → ℤ → ℕ → ℕ → ℤ
 turned d f u h b i = sum (0 ⋯ (d - i)) (λ j. f i j *ℤ entry u h j b)
@@ -41,5 +37,12 @@ abbrev pub AtCorners : ℤ → ℤ → ℕ → (ℤ → ℤ → Type 0) → Type
 AtCorners U0 V0 H P = P (U0 -ℤ pos H) (V0 -ℤ pos H) × P (U0 +ℤ pos H) (V0 -ℤ pos H) × P (U0 -ℤ pos H) (V0 +ℤ pos H) × P (U0 +ℤ pos H) (V0 +ℤ pos H)
 
 -- the local form of a table f(i,j), i + j ≤ d, about (u, v) with the half-side h: the sum over i ≥ a, j ≥ b of f(i,j) C(i,a) C(j,b) u^(i-a) v^(j-b) h^(a+b)
+abbrev pub moved-term : (ℕ → ℕ → ℤ) → ℤ → ℤ → ℤ → ℕ → ℕ → ℕ → ℕ → ℤ
+moved-term f u v h a b i j = f i j *ℤ pos (choose i a) *ℤ pos (choose j b) *ℤ pow u (i - a) *ℤ pow v (j - b) *ℤ pow h (a + b)
+
 unfoldable pub moved : ℕ → (ℕ → ℕ → ℤ) → ℤ → ℤ → ℤ → ℕ → ℕ → ℤ
-moved d f u v h a b = sum (a ⋯ d) (λ i. sum (b ⋯ (d - i)) (λ j. f i j *ℤ pos (choose i a) *ℤ pos (choose j b) *ℤ pow u (i - a) *ℤ pow v (j - b) *ℤ pow h (a + b)))
+moved d f u v h a b = sum (a ⋯ d) (λ i. sum (b ⋯ (d - i)) (λ j. moved-term f u v h a b i j))
+
+-- the table that a sheet's coefficients give with the scale 2^(k+1): A(i,j) 2^((k+1)(d-i-j))
+abbrev pub page-scaled : ℕ → ℕ → (ℕ → ℕ → ℤ) → ℕ → ℕ → ℤ
+page-scaled d k A i j = A i j *ℤ pos (2 ^ ((k + 1) * (d - i - j)))

@@ -11,7 +11,7 @@ use Rattle.forms.specs.Points.{Point}
 use Rattle.forms.specs.Polynomial.{Polynomial, value}
 use Rattle.forms.specs.LocalForm.{local}
 use Rattle.forms.specs.Bounds as Bounds
-use Rattle.forms.specs.Plane.{pair, plane}
+use Rattle.forms.specs.Plane.{pair, plane, moved}
 use Rattle.forms.proofs.Plane.{value-plane, local-plane, lower-plane, upper-plane, bend-plane, low-plane, high-plane, bent-plane}
 use Rattle.page.specs.Sheet.{Sheet, A}
 use Rattle.page.specs.Scaled.{F, half-side, U0, V0, value-at}
@@ -35,7 +35,7 @@ F-is S u v = sym (value-plane (S .d) (S .k) (A S) u v 1 ∙ sum-cong (0 ⋯ (S .
 
 module _ (S : Sheet) (j p q : ℕ) where
   pub G-is : (a b : ℕ) → G S j p q a b ≡ local (polynomial S) (centre S j p q) (half-side S j) (a ∷ b ∷ [])
-  unfolding G
+  unfolding G moved
   G-is a b = sym (local-plane (S .d) (S .k) (A S) (U0 S j p) (V0 S j q) (half-side S j) a b)
 
   pub lower-is : (mode : Bounds.Mode) → lower S mode j p q ≡ Bounds.lower (polynomial S) mode (centre S j p q) (half-side S j)
