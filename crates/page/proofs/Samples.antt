@@ -1,6 +1,7 @@
--- The definitions at the page's numbers, computed. The starred sheets stand whole in the crate `starred`; these are figures of single cells, small walks, and the edges of the refusal table.
+-- The definitions at the page's numbers, computed. The starred figures stand in the crate `starred`, and few of them here, where an edit of a definition is to be refused at once; these are figures of
+-- single cells, small walks, and the edges of the refusal table.
 use mathlib.Core.Path.{_≡_, refl}
-use mathlib.Core.List.{List, [], _∷_}
+use mathlib.Core.List.{[], _∷_}
 use Prim.Native.Nat.{ℕ}
 use native.Mathlib.Omega.{arith}
 use lib.IntN.{ℤ, pos, negsuc, pow, one}
@@ -9,53 +10,36 @@ use Rattle.algebra.specs.Sum.{sum, sumℕ, run, span, _⋯_}
 use Rattle.algebra.specs.Binomial.{choose}
 use Rattle.algebra.specs.MinMax.{minℤ, maxℤ}
 use Rattle.algebra.specs.Triangle.{row-start}
-use Rattle.algebra.specs.Digits.{digits}
 use Rattle.forms.specs.Bounds.{affine, centred}
 use Rattle.verdicts.specs.Judging.{judged}
 use Rattle.verdicts.specs.declared.Verdict.the-variants.{Above, Below, Open}
 use Rattle.page.specs.Sheet.{Sheet, A}
+use Rattle.page.specs.CheckedSheets.{square, P1, P4, P5, P7, P9, P10}
 use Rattle.page.specs.Scaled.{F, value-at, half-side, U0, V0, InCell}
 use Rattle.page.specs.LocalForm.{G}
-use Rattle.page.specs.Bounds.{lower, upper, bend, verdict}
+use Rattle.page.specs.Bounds.{lower, upper, verdict}
 use Rattle.verdicts.specs.Walking.{colour, raster, visited, coloured}
-use Rattle.page.specs.Weight.{R, weight, spare}
+use Rattle.page.specs.Weight.{R, weight}
 use Rattle.page.specs.Refusals.{to-check, at-point, in-cell, to-walk, table, first, refusal}
 
--- degree, coefficients, corner (Y = X), side, depth
-abbrev sheet : ℕ → List ℤ → ℤ → ℕ → ℕ → Sheet
-sheet d A X s k = record { d = d; coefficients = A; X = X; Y = X; s = s; k = k }
-
--- 8x² + 1, x - y, xy, x²
-abbrev pub P1 : Sheet
-P1 = sheet 2 (pos 1 ∷ pos 0 ∷ pos 0 ∷ pos 0 ∷ pos 0 ∷ pos 8 ∷ []) (negsuc 0) 1 1
-
-abbrev pub P4 : ℕ → Sheet
-P4 k = sheet 1 (pos 0 ∷ negsuc 0 ∷ pos 1 ∷ []) (pos 0) 0 k
-
-abbrev P8 : Sheet
-P8 = sheet 2 (pos 0 ∷ pos 0 ∷ pos 0 ∷ pos 0 ∷ pos 1 ∷ pos 0 ∷ []) (negsuc 0) 1 0
-
-abbrev pub P9 : Sheet
-P9 = sheet 2 (pos 0 ∷ pos 0 ∷ pos 0 ∷ pos 0 ∷ pos 0 ∷ pos 1 ∷ []) (pos 0) 0 0
-
 -- one coefficient at the first of 45 places, and zeros
-abbrev pub constant : ℤ → ℕ → ℕ → Sheet
-constant c d k = sheet d (c ∷ replicate 44 (pos 0)) (pos 0) 0 k
+abbrev constant : ℤ → ℕ → ℕ → Sheet
+constant c d k = square d (c ∷ replicate 44 (pos 0)) (pos 0) 0 k
 
 -- ---- scaled numbers
-order : (A (P4 1) 0 0 ≡ pos 0) × (A (P4 1) 0 1 ≡ negsuc 0) × (A (P4 1) 1 0 ≡ pos 1)
+order : (A P4 0 0 ≡ pos 0) × (A P4 0 1 ≡ negsuc 0) × (A P4 1 0 ≡ pos 1)
 unfolding sumℕ run span row-start
 order = (refl, refl, refl)
 
 cells : (half-side P1 0 ≡ 4) × (half-side P1 1 ≡ 2) × (U0 P1 0 0 ≡ pos 0) × (U0 P1 1 1 ≡ pos 2) × (V0 P1 1 0 ≡ negsuc 1)
 cells = (refl, refl, refl, refl, refl)
 
-values : (F P9 (pos 2) (pos 0) ≡ pos 4) × (F (P4 1) (pos 3) (pos 1) ≡ pos 2) × (F P1 (negsuc 3) (pos 0) ≡ pos 144) × (value-at (P4 1) (pos 3) (pos 1) 2 ≡ pos 2) × (value-at P1 (pos 1) (pos 0) 3 ≡ pos 152)
+values : (F P9 (pos 2) (pos 0) ≡ pos 4) × (F P4 (pos 3) (pos 1) ≡ pos 2) × (F P1 (negsuc 3) (pos 0) ≡ pos 144) × (value-at P4 (pos 3) (pos 1) 2 ≡ pos 2) × (value-at P1 (pos 1) (pos 0) 3 ≡ pos 152)
 unfolding pow one sum sumℕ run span _⋯_ row-start F value-at
 values = (refl, refl, refl, refl, refl)
 
 -- the cell is closed: its corner and a point on its edge lie in it
-on-the-edge : InCell (P4 1) 1 0 0 (pos 2) (pos 2) 1 × InCell (P4 1) 1 1 0 (pos 4) (pos 3) 2
+on-the-edge : InCell P4 1 0 0 (pos 2) (pos 2) 1 × InCell P4 1 1 0 (pos 4) (pos 3) 2
 on-the-edge = (record { across = omega arith; along = omega arith }, record { across = omega arith; along = omega arith })
 
 -- ---- bounds, bend, verdict
@@ -63,54 +47,43 @@ form-P1 : (G P1 1 1 0 0 0 ≡ pos 48) × (G P1 1 1 0 1 0 ≡ pos 64) × (G P1 1 
 unfolding pow one sum sumℕ run span _⋯_ choose row-start G
 form-P1 = (refl, refl, refl, refl)
 
-bounds-P1 : (lower P1 affine 0 0 0 ≡ pos 16) × (upper P1 affine 0 0 0 ≡ pos 144) × (lower P1 affine 1 1 0 ≡ negsuc 15) × (upper P1 affine 1 1 0 ≡ pos 144)
-    × (lower P1 centred 0 0 0 ≡ negsuc 111) × (lower P1 centred 1 1 0 ≡ negsuc 47)
-unfolding pow one sum sumℕ run span _⋯_ choose minℤ maxℤ row-start G lower upper
-bounds-P1 = (refl, refl, refl, refl, refl, refl)
-
-bounds-P8 : (lower P8 affine 0 0 0 ≡ negsuc 3) × (upper P8 affine 0 0 0 ≡ pos 4) × (bend P8 0 0 0 ≡ 4) × (bend P9 0 0 0 ≡ 1)
-unfolding pow one sum sumℕ run span _⋯_ choose minℤ maxℤ row-start G lower upper bend
-bounds-P8 = (refl, refl, refl, refl)
-
 -- touching a corner counts: a lower bound of 0 is open
-verdicts : (verdict P1 affine 0 0 0 ≡ Above (pos 16) (pos 144)) × (verdict (P4 1) affine 1 1 0 ≡ Open (pos 0) (pos 4)) × (verdict (constant (negsuc 4) 0 7) centred 7 127 0 ≡ Below (negsuc 4) (negsuc 4))
+verdicts : (verdict P1 affine 0 0 0 ≡ Above (pos 16) (pos 144)) × (verdict P4 affine 1 1 0 ≡ Open (pos 0) (pos 4)) × (verdict P7 centred 7 127 0 ≡ Below (negsuc 4) (negsuc 4))
 unfolding pow one sum sumℕ run span _⋯_ choose minℤ maxℤ row-start judged G lower upper
 verdicts = (refl, refl, refl)
 
 -- ---- weight, spare places
-weights : (R P1 ≡ 1) × (weight P1 ≡ 144) × (spare P1 ≡ 54) × (weight (sheet 0 (pos 0 ∷ []) (pos 0) 0 0) ≡ 0) × (spare (sheet 0 (pos 0 ∷ []) (pos 0) 0 0) ≡ 62)
-    × (R (sheet 0 (pos 0 ∷ []) (negsuc 7) 2 0) ≡ 8) × (R (sheet 0 (pos 0 ∷ []) (pos 5) 3 0) ≡ 13)
-unfolding sum sumℕ run span _⋯_ row-start digits weight
-weights = (refl, refl, refl, refl, refl, refl, refl)
+weights : (R P1 ≡ 1) × (weight P1 ≡ 144) × (R (square 0 (pos 0 ∷ []) (negsuc 7) 2 0) ≡ 8) × (R (square 0 (pos 0 ∷ []) (pos 5) 3 0) ≡ 13)
+unfolding sum sumℕ run span _⋯_ row-start weight
+weights = (refl, refl, refl, refl)
 
 -- ---- the refusal table: each row at its edge, and the first of several
-refusals : (refusal (to-check (constant (pos 63) 8 6)) ≡ 0) × (refusal (to-check (constant (pos 64) 8 6)) ≡ 6) × (refusal (to-check (constant (pos 0) 8 7)) ≡ 0) × (refusal (to-check (constant (pos 1) 8 7)) ≡ 6)
+refusals : (refusal (to-check (P10 63)) ≡ 0) × (refusal (to-check (P10 64)) ≡ 6) × (refusal (to-check (constant (pos 0) 8 7)) ≡ 0) × (refusal (to-check (constant (pos 1) 8 7)) ≡ 6)
     × (refusal (to-check (constant (negsuc 0) 9 8)) ≡ 1) × (refusal (to-check (constant (pos 1) 7 8)) ≡ 2) × (refusal (to-check (constant (pos 1) 8 8)) ≡ 3)
 unfolding sumℕ run span _⋯_ row-start weight table first
 refusals = (refl, refl, refl, refl, refl, refl, refl)
 
-frames : (refusal (to-check (sheet 0 (pos 1 ∷ []) (pos 1_048_576) 10 7)) ≡ 0) × (refusal (to-check (sheet 0 (pos 1 ∷ []) (pos 1_048_577) 10 7)) ≡ 4) × (refusal (to-check (sheet 0 (pos 1 ∷ []) (negsuc 1_048_575) 0 0)) ≡ 0)
-    × (refusal (to-check (sheet 0 (pos 1 ∷ []) (negsuc 1_048_576) 0 0)) ≡ 4) × (refusal (to-check (sheet 0 (pos 1 ∷ []) (pos 0) 11 0)) ≡ 4)
+frames : (refusal (to-check (square 0 (pos 1 ∷ []) (pos 1_048_576) 10 7)) ≡ 0) × (refusal (to-check (square 0 (pos 1 ∷ []) (pos 1_048_577) 10 7)) ≡ 4) × (refusal (to-check (square 0 (pos 1 ∷ []) (negsuc 1_048_575) 0 0)) ≡ 0)
+    × (refusal (to-check (square 0 (pos 1 ∷ []) (negsuc 1_048_576) 0 0)) ≡ 4) × (refusal (to-check (square 0 (pos 1 ∷ []) (pos 0) 11 0)) ≡ 4)
 unfolding sumℕ run span _⋯_ row-start weight table first
 frames = (refl, refl, refl, refl, refl)
 
 cells-refused : (refusal (in-cell P9 2 0 0 0) ≡ 5) × (refusal (in-cell P9 1 0 0 0) ≡ 0) × (refusal (in-cell P9 1 1 0 0) ≡ 8) × (refusal (in-cell P1 0 1 2 0) ≡ 8) × (refusal (in-cell P1 0 1 1 1) ≡ 0) × (refusal (in-cell P1 0 1 1 2) ≡ 8)
-    × (refusal (in-cell (constant (pos 64) 8 6) 2 9 0 0) ≡ 5) × (refusal (in-cell (constant (pos 64) 8 6) 1 9 0 0) ≡ 6)
+    × (refusal (in-cell (P10 64) 2 9 0 0) ≡ 5) × (refusal (in-cell (P10 64) 1 9 0 0) ≡ 6)
 unfolding sumℕ run span _⋯_ row-start weight table first
 cells-refused = (refl, refl, refl, refl, refl, refl, refl, refl)
 
 -- the closed square: its corners are points of it
-points-refused : (refusal (at-point P1 (negsuc 3) (pos 4)) ≡ 0) × (refusal (at-point P1 (negsuc 4) (pos 4)) ≡ 8) × (refusal (at-point P1 (pos 4) (pos 5)) ≡ 8) × (refusal (at-point (constant (pos 64) 8 6) (negsuc 0) (pos 0)) ≡ 6)
+points-refused : (refusal (at-point P1 (negsuc 3) (pos 4)) ≡ 0) × (refusal (at-point P1 (negsuc 4) (pos 4)) ≡ 8) × (refusal (at-point P1 (pos 4) (pos 5)) ≡ 8) × (refusal (at-point (P10 64) (negsuc 0) (pos 0)) ≡ 6)
 unfolding sumℕ run span _⋯_ row-start weight table first
 points-refused = (refl, refl, refl, refl)
 
 -- ---- P5, and P13's three places: 3, 4 and 5 entries at k 1
-walks : (visited (verdict (P4 2) affine) 2 ≡ 21) × (coloured (verdict (P4 2) affine) 2 ≡ 10) × (visited (verdict P1 affine) 1 ≡ 1) × (coloured (verdict P1 centred) 1 ≡ 4)
-    × (raster (verdict (P4 1) affine) 1 ≡ 1 ∷ 1 ∷ 1 ∷ 1 ∷ []) × (raster (verdict P1 affine) 1 ≡ 2 ∷ 2 ∷ 2 ∷ 2 ∷ [])
-    × (raster (verdict (P4 2) centred) 2 ≡ 1 ∷ 1 ∷ 2 ∷ 2 ∷ 1 ∷ 1 ∷ 1 ∷ 2 ∷ 3 ∷ 1 ∷ 1 ∷ 1 ∷ 3 ∷ 3 ∷ 1 ∷ 1 ∷ []) × (visited (verdict (sheet 2 (P1 .coefficients) (negsuc 0) 1 2) affine) 2 ≡ 1)
+walks : (visited (verdict P5 affine) 2 ≡ 21) × (coloured (verdict P5 affine) 2 ≡ 10) × (raster (verdict P1 affine) 1 ≡ 2 ∷ 2 ∷ 2 ∷ 2 ∷ [])
+    × (raster (verdict P5 centred) 2 ≡ 1 ∷ 1 ∷ 2 ∷ 2 ∷ 1 ∷ 1 ∷ 1 ∷ 2 ∷ 3 ∷ 1 ∷ 1 ∷ 1 ∷ 3 ∷ 3 ∷ 1 ∷ 1 ∷ []) × (visited (verdict (square 2 (P1 .coefficients) (negsuc 0) 1 2) affine) 2 ≡ 1)
 unfolding pow one sum sumℕ run span _⋯_ choose minℤ maxℤ row-start judged G lower upper colour raster visited coloured
-walks = (refl, refl, refl, refl, refl, refl, refl, refl)
+walks = (refl, refl, refl, refl, refl)
 
-places-refused : (refusal (to-walk (P4 1) 0 3) ≡ 7) × (refusal (to-walk (P4 1) 0 4) ≡ 0) × (refusal (to-walk (P4 1) 1 5) ≡ 0) × (refusal (to-walk (P4 1) 2 3) ≡ 5)
+places-refused : (refusal (to-walk P4 0 3) ≡ 7) × (refusal (to-walk P4 0 4) ≡ 0) × (refusal (to-walk P4 1 5) ≡ 0) × (refusal (to-walk P4 2 3) ≡ 5)
 unfolding pow one sum sumℕ run span _⋯_ choose minℤ maxℤ row-start judged G lower upper weight visited table first
 places-refused = (refl, refl, refl, refl)

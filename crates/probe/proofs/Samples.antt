@@ -12,12 +12,12 @@ use Rattle.page.specs.LocalForm.{G}
 use Rattle.page.specs.Bounds.{lower, upper, bend}
 use Rattle.page.specs.Weight.{weight}
 use Rattle.page.specs.Refusals.{table, first}
-use Rattle.page.proofs.Samples.{P1, P9, constant}
+use Rattle.page.specs.CheckedSheets.{P1, P9, P10}
 use Rattle.probe.specs.declared.Checked.the-variants as Checked
 use Rattle.probe.specs.Answers.{checked, states-weight, valued, states-value, bounded, states-bounds}
 
-answers : (checked P1 ≡ Checked.Accepted 144 54) × (checked (constant (pos 64) 8 6) ≡ Checked.Refused 6)
-    × (states-weight (checked (constant (pos 64) 8 6)) ≡ record { number = 6; weight = 0; spare = 0 })
+answers : (checked P1 ≡ Checked.Accepted 144 54) × (checked (P10 64) ≡ Checked.Refused 6)
+    × (states-weight (checked (P10 64)) ≡ record { number = 6; weight = 0; spare = 0 })
     × (states-bounds (bounded P9 1 0 0 0) ≡ record { number = 0; lower = negsuc 1; upper = pos 4; bend = 1 })
     × (states-bounds (bounded P9 2 0 0 0) ≡ record { number = 5; lower = pos 0; upper = pos 0; bend = 0 })
     × (states-value (valued P1 (pos 9) (pos 0)) ≡ record { number = 8; value = pos 0 })

@@ -4,10 +4,11 @@ use mathlib.Core.Bool.{Bool, true, _&&_}
 use mathlib.Core.List.{List, [], _∷_}
 use Prim.Native.Nat.{ℕ}
 use lib.Dec.{eqb}
-use lib.IntN.{ℤ, pos, negℤ}
-use lib.ListN.{length, replicate}
+use lib.IntN.{ℤ, pos}
+use lib.ListN.{length}
 use lib.Signed.{leZ}
 use Rattle.page.specs.Sheet.{Sheet, mode-of}
+use Rattle.page.specs.CheckedSheets.{minus, P1, P4, P6, P7, P8, P9, P10}
 use Rattle.page.specs.Bounds.{verdict}
 use Rattle.verdicts.specs.Walking.{visited, coloured, raster}
 use Rattle.probe.specs.Answers.{checked, states-weight, valued, states-value, bounded, states-bounds}
@@ -47,42 +48,6 @@ holds S (refused-by n) = let r = states-weight (checked S) in eqb (r .number) n 
 holds S (visited-are m n) = eqb (visited (verdict S (mode-of m)) (S .k)) n
 holds S (coloured-are m n) = eqb (coloured (verdict S (mode-of m)) (S .k)) n
 holds S (bytes-are m count n) = eqb (length (raster (verdict S (mode-of m)) (S .k))) count && every (raster (verdict S (mode-of m)) (S .k)) n
-
--- -n, as the page writes a negative number
-abbrev pub minus : ℕ → ℤ
-minus n = negℤ (pos n)
-
--- ---- the sheets, by degree, coefficients, corner (Y = X), side and depth
-abbrev sheet : ℕ → List ℤ → ℤ → ℕ → ℕ → Sheet
-sheet d A X s k = record { d = d; coefficients = A; X = X; Y = X; s = s; k = k }
-
--- 8x² + 1
-abbrev pub P1 : Sheet
-P1 = sheet 2 (pos 1 ∷ pos 0 ∷ pos 0 ∷ pos 0 ∷ pos 0 ∷ pos 8 ∷ []) (minus 1) 1 1
-
--- x - y
-abbrev pub P4 : Sheet
-P4 = sheet 1 (pos 0 ∷ minus 1 ∷ pos 1 ∷ []) (pos 0) 0 1
-
--- 0
-abbrev pub P6 : Sheet
-P6 = sheet 0 (pos 0 ∷ []) (pos 0) 0 0
-
--- -5
-abbrev pub P7 : Sheet
-P7 = sheet 0 (minus 5 ∷ []) (pos 0) 0 7
-
--- xy
-abbrev pub P8 : Sheet
-P8 = sheet 2 (pos 0 ∷ pos 0 ∷ pos 0 ∷ pos 0 ∷ pos 1 ∷ pos 0 ∷ []) (minus 1) 1 0
-
--- x²
-abbrev pub P9 : Sheet
-P9 = sheet 2 (pos 0 ∷ pos 0 ∷ pos 0 ∷ pos 0 ∷ pos 0 ∷ pos 1 ∷ []) (pos 0) 0 0
-
--- a constant, with d 8 and k 6
-abbrev pub P10 : ℕ → Sheet
-P10 n = sheet 8 (pos n ∷ replicate 44 (pos 0)) (pos 0) 0 6
 
 -- ---- the table
 pub record Star : Type 0 where
