@@ -1,7 +1,7 @@
 -- What the page says of reading a text holds.
 use mathlib.Core.Path.{_≡_, refl, sym, _∙_, ap}
 use mathlib.Core.Bool.{Bool, true, false, _||_, cond}
-use mathlib.Core.List.{List, [], _∷_, _++_}
+use mathlib.Core.List.{List, [], _∷_, _++_, append-nil}
 use Prim.Native.Nat.{ℕ, zero, suc, _+_, _^_, _≤_, _<_}
 use native.Mathlib.Omega.{arith}
 use borrow.Author.Tests.{eq-eqb, ltb-true, ltb-false, lt-ltb}
@@ -110,35 +110,30 @@ bad-within ls n e = bad-is (counted-text ls []) n e .0
 pub bad-stays : BadStays
 bad-stays ls more n e h = bad-is (counted-text ls more) n e .1 h
 
--- ---- bytes after an LF: what stands before them has a line at least, which takes the byte before it
-joined : (text more : List ℕ) → (lines (text ++ (10 ∷ more)) ≡ lines (text ++ (10 ∷ [])) ++ lines more) × (1 ≤ length (lines (text ++ (10 ∷ []))))
-unfolding lines
-joined [] more = (refl, omega arith)
-joined (b ∷ text) more = by (eqb b 10) (lines (text ++ (10 ∷ []))) (joined text more)
-  where
-    by : (c : Bool) (ls : List Line) {longer : List Line} → (longer ≡ ls ++ lines more) × (1 ≤ length ls)
-        → let l = cond c (ended-line [] ∷ ls) (before-line b ls) in (cond c (ended-line [] ∷ longer) (before-line b longer) ≡ l ++ lines more) × (1 ≤ length l)
-    by true ls h = (ap (λ l. ended-line [] ∷ l) (h .0), omega arith)
-    by false [] h = absurd (omega arith)
-    by false (l ∷ ls) h = (ap (before-line b) (h .0), omega arith)
+-- ---- bytes in parts, of which c ends one: what stands up to a c, closed as the last bytes of all are, has a part at least, which takes the byte before it
+module _ {X : Type 0} (c : ℕ) (closed : List ℕ) (parts : List ℕ → List X) (empty : X) (before : ℕ → List X → List X)
+    (law : (b : ℕ) (bs : List ℕ) → parts (b ∷ bs) ≡ cond (eqb b c) (empty ∷ parts bs) (before b (parts bs)))
+    (takes : (b : ℕ) (p : X) (ps qs : List X) → before b ((p ∷ ps) ++ qs) ≡ before b (p ∷ ps) ++ qs)
+    (grows : (b : ℕ) (p : X) (ps : List X) → 1 ≤ length (before b (p ∷ ps)))
+    (alone : parts closed ≡ empty ∷ []) where
+  joined : (bytes more : List ℕ) → (parts (bytes ++ (c ∷ more)) ≡ parts (bytes ++ closed) ++ parts more) × (1 ≤ length (parts (bytes ++ closed)))
+  joined [] more = (law c more ∙ rw (eq-eqb c c refl, alone), rw alone (omega arith))
+  joined (b ∷ bytes) more = rw (law b (bytes ++ (c ∷ more)), law b (bytes ++ closed)) (by (eqb b c) (parts (bytes ++ closed)) (joined bytes more))
+    where
+      by : (e : Bool) (ps : List X) {longer : List X} → (longer ≡ ps ++ parts more) × (1 ≤ length ps)
+          → let l = cond e (empty ∷ ps) (before b ps) in (cond e (empty ∷ longer) (before b longer) ≡ l ++ parts more) × (1 ≤ length l)
+      by true ps h = (ap (λ l. empty ∷ l) (h .0), omega arith)
+      by false [] h = absurd (omega arith)
+      by false (p ∷ ps) h = (ap (before b) (h .0) ∙ takes b p ps (parts more), grows b p ps)
 
+-- lines end at an LF, fields at a tab; a last line has its LF, a last field no tab
 pub lines-join : LinesJoin
-lines-join text more = joined text more .0
-
--- ---- the same of a tab: what stands before it has a field at least, which takes the byte before it
-parted : (before more : List ℕ) → (fields (before ++ (9 ∷ more)) ≡ fields before ++ fields more) × (1 ≤ length (fields before))
-unfolding fields
-parted [] more = (refl, omega arith)
-parted (b ∷ before) more = by (eqb b 9) (fields before) (parted before more)
-  where
-    by : (c : Bool) (fs : List (List ℕ)) {longer : List (List ℕ)} → (longer ≡ fs ++ fields more) × (1 ≤ length fs)
-        → let l = cond c ([] ∷ fs) (before-field b fs) in (cond c ([] ∷ longer) (before-field b longer) ≡ l ++ fields more) × (1 ≤ length l)
-    by true fs h = (ap (λ l. [] ∷ l) (h .0), omega arith)
-    by false [] h = absurd (omega arith)
-    by false (f ∷ fs) h = (ap (before-field b) (h .0), omega arith)
+unfolding lines
+lines-join text more = joined 10 (10 ∷ []) lines (ended-line []) before-line (λ b bs. refl) (λ b p ps qs. refl) (λ b p ps. omega arith) refl text more .0
 
 pub fields-join : FieldsJoin
-fields-join before more = parted before more .0
+unfolding fields
+fields-join bytes more = joined 9 [] fields [] before-field (λ b bs. refl) (λ b p ps qs. refl) (λ b p ps. omega arith) refl bytes more .0 ∙ ap (λ l. fields l ++ fields more) (append-nil bytes)
 
 -- ---- a well-formed text has each of the first four lines
 module _ (w : Said) where
