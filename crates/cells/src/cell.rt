@@ -1,6 +1,7 @@
 // The ground of a sheet, and the range of a cell on it.
 use crate::Ground;
 use crate::scale::scaled_form;
+use local::Form;
 use local::Range;
 ghost use mathlib.Core.Path.{_≡_};
 ghost use Prim.Native.Nat.{_+_, _*_, _-_, _^_, _≤_, _<_};
@@ -33,6 +34,22 @@ pub fn ground_of(d: u32, coefficients: &[i32], x: i32, y: i32, s: u32, k: u32, m
         s,
         k,
         mode,
+    }
+}
+
+// Zeros, where there is no ground.
+pub fn no_ground() -> Ground {
+    let form = Form {
+        degree: 0,
+        places: [0; 45],
+    };
+    Ground {
+        form,
+        across: 0,
+        along: 0,
+        s: 0,
+        k: 0,
+        mode: 0,
     }
 }
 

@@ -6,6 +6,7 @@ mod scale;
 
 pub use cell::cell_range;
 pub use cell::ground_of;
+pub use cell::no_ground;
 use local::Form;
 pub use refusals::count;
 pub use refusals::mode_refusal;

@@ -16,8 +16,8 @@ use Rattle.page.proofs.Rows.{unless-none, unless-refused, unless-number, walk-p
 use Rattle.page.proofs.Raster.{white-signed, coloured-meets}
 use Rattle.page.proofs.Cover.{curve-covered}
 use Rattle.walk.specs.Answers.{verdicts, rastered, recorded, Reckoned, reckoned, states-listing, Enumerated, enumerated}
-use Rattle.walk.specs.Facts.{RasterNumber, ListingNumber, RasterZeros, ListingZeros, PrintedByte, PrintedSigned, PrintedMeets, PrintedCurve, WrittenRecords, ListedColour, ListedSigned, RefusedUnchanged, LaterUnchanged}
-use Rattle.walk.proofs.Whole.{over-length, over-later}
+use Rattle.walk.specs.Facts.{RasterNumber, ListingNumber, RasterZeros, ListingZeros, PrintedByte, PrintedSigned, PrintedMeets, PrintedCurve, WrittenRecords, ListedColour, ListedSigned, ListedMeets, ListedCurve, RefusedUnchanged, LaterUnchanged}
+use Rattle.walk.proofs.Whole.{room, over-length, over-later}
 
 -- ---- the number, and zeros beside it
 pub raster-number : RasterNumber
@@ -46,12 +46,9 @@ module _ (S : Sheet) (mode : ℕ) (old : List ℕ) (e : refusal (to-walk S mode 
   unfolding recorded
   listing-place = sym (unless-none _ _ _ e)
 
-  -- there is room for the raster and for the listing
-  raster-room : 4 ^ S .k ≤ length old
-  raster-room = walk-passed S mode (length old) e .2
-
+  -- there is room for the listing
   listing-room : length (records (verdicts S mode) (S .k)) ≤ length old
-  listing-room = Nat.le-trans (listing-long (verdicts S mode) (S .k) .2) raster-room
+  listing-room = Nat.le-trans (listing-long (verdicts S mode) (S .k) .2) (room S mode (length old) e)
 
 -- ---- the bytes of the raster
 pub printed-byte : PrintedByte
@@ -86,13 +83,21 @@ listed-colour S mode old r now h e p q a b =
     let v = verdicts S mode in let xs = records v (S .k) in
     rw (written-records S mode old r now h e .0, h .2 ∙ listing-place S mode old e, take-append-seam xs (drop (length xs) old)) (one-record-each v (S .k) p q (walk-passed S mode (length old) e .0 .ranges .depth) a b)
 
+head-is : {m n : ℕ} → m ∷ [] ≡ n ∷ [] → m ≡ n
+head-is z = ap (λ l. getD l 0 0) z
+
 pub listed-signed : ListedSigned
 listed-signed S mode old r now h e p q a b M N Q o i =
     let s = white-signed S (mode-of mode) p q M N Q o i in let c = listed-colour S mode old r now h e p q a b in
     (λ z. s .0 (head-is (sym c ∙ z)), λ z. s .1 (head-is (sym c ∙ z)))
-  where
-    head-is : {m n : ℕ} → m ∷ [] ≡ n ∷ [] → m ≡ n
-    head-is z = ap (λ l. getD l 0 0) z
+
+pub listed-meets : ListedMeets
+listed-meets S mode old r now h e p q a b z = coloured-meets S (mode-of mode) p q (head-is (sym (listed-colour S mode old r now h e p q a b) ∙ z))
+
+pub listed-curve : ListedCurve
+listed-curve S mode old r now h e M N Q o i z =
+    let (c, one) = curve-covered S (mode-of mode) M N Q o i z in
+    (c, listed-colour S mode old r now h e (c .column) (c .row) (c .is-cell .column) (c .is-cell .row) ∙ ap (λ n. n ∷ []) one)
 
 -- ---- what stays as it was
 pub refused-unchanged : RefusedUnchanged
@@ -103,6 +108,6 @@ pub later-unchanged : LaterUnchanged
 later-unchanged S mode old now e =
     let v = verdicts S mode in
     let long = raster-long v (S .k) in (
-      λ r h. rw (h .2 ∙ raster-place S mode old e) (over-length (raster v (S .k)) old long (raster-room S mode old e), over-later (raster v (S .k)) old long),
+      λ r h. rw (h .2 ∙ raster-place S mode old e) (over-length (raster v (S .k)) old long (room S mode (length old) e), over-later (raster v (S .k)) old long),
       λ r h. rw (h .2 ∙ listing-place S mode old e) (over-length (records v (S .k)) old refl (listing-room S mode old e), over-later (records v (S .k)) old refl),
     )

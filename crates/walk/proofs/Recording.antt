@@ -1,14 +1,12 @@
 -- Listing a cell writes its records: one for a cell that is not cut, and the four parts' in turn for a cut one. Where there is room for a record of
 -- each finest cell, there is room for those of each part.
-use mathlib.Core.Path.{_≡_, sym, _∙_, ap}
+use mathlib.Core.Path.{_≡_, refl, ap}
 use mathlib.Core.List.{List}
 use Prim.Native.Nat.{ℕ, _+_, _*_, _-_, _^_, _≤_, _<_}
 use native.Mathlib.Nat as Nat
 use native.Mathlib.Omega.{arith}
 use lib.Dec.{lit<}
 use lib.ListN.{length, set}
-use lib.Seq.{sets}
-use Rattle.algebra.specs.Written.{Written}
 use Rattle.algebra.proofs.Written.{written-two, written-length}
 use Rattle.verdicts.specs.Walking.{Verdicts, in-turn, record-of}
 use Rattle.verdicts.specs.Operational.{records-from}
@@ -22,14 +20,9 @@ use Rattle.walk.proofs.Cells.{Settled, counted-one, counted-cut}
 pub recorded-one : {v : Verdicts} {k level p q at c : ℕ} {old : List ℕ} → Settled v level (k - level) p q c
     → Recorded v k level p q at old (set old at (record-of c level p q)) (record { end = at + 1; seen = one-seen c })
 recorded-one {v} {k} {level} {p} {q} {at} {c} {old} s = record {
-  ends = sym (ap (λ xs. at + length xs) (s .records));
-  written = sym (ap (λ xs. sets old at xs) (s .records));
+  written = rw (s .records) (record { ends = refl; written = refl });
   counted = counted-one v k level p q c s;
 }
-
-as-written : {v : Verdicts} {k level p q at : ℕ} {old now : List ℕ} {r : Entered} → Recorded v k level p q at old now r
-    → Written (records-from v level (k - level) p q) at old now (r .end)
-as-written h = record { ends = h .ends; written = h .written }
 
 -- the parts' records, in the order lower left, lower right, upper left, upper right
 pub recorded-cut : {v : Verdicts} {k level p q at : ℕ} {l₀ l₁ l₂ l₃ l₄ : List ℕ} {a b c d : Entered} → level < k → Opened (v level p q)
@@ -39,10 +32,8 @@ pub recorded-cut : {v : Verdicts} {k level p q at : ℕ} {l₀ l₁ l₂ l₃ l�
 recorded-cut {v} {k} {level} {p} {q} {at} {l₀} {a = a} {b} {c} {d} l s h₁ h₂ h₃ h₄ =
     let n = k - (level + 1) in
     let e : records-from v level (k - level) p q ≡ in-turn (records-from v (level + 1) n) p q = rw (levels-below l) (records-open v level p q s n) in
-    let w = written-two (as-written h₁) (written-two (as-written h₂) (written-two (as-written h₃) (as-written h₄))) in
     record {
-      ends = w .ends ∙ sym (ap (λ xs. at + length xs) e);
-      written = w .written ∙ sym (ap (λ xs. sets l₀ at xs) e);
+      written = rw e (written-two (h₁ .written) (written-two (h₂ .written) (written-two (h₃ .written) (h₄ .written))));
       counted = counted-cut v k level p q (a .seen) (b .seen) (c .seen) (d .seen) l s (h₁ .counted) (h₂ .counted) (h₃ .counted) (h₄ .counted);
     }
 
@@ -55,7 +46,7 @@ room-one k level at old h = omega (arith, Nat.one-le-pow (k - level) 4 (lit< tt)
 room-rest : {v : Verdicts} {k level p q at : ℕ} {old now : List ℕ} {r : Entered} (rest : ℕ) → Recorded v k level p q at old now r
     → at + (4 ^ (k - level) + rest) ≤ length old → r .end + rest ≤ length now
 room-rest {v} {k} {level} {p} {q} rest h j =
-    omega (arith, h .ends, records-bound v level (k - level) p q, written-length (as-written h))
+    omega (arith, h .written .ends, records-bound v level (k - level) p q, written-length (h .written))
 
 -- the room of a part
 abbrev part : ℕ → ℕ → ℕ

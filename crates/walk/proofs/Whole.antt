@@ -20,9 +20,24 @@ use Rattle.verdicts.proofs.Tallies.{visited-is, coloured-is}
 use Rattle.verdicts.proofs.Lengths.{raster-long, listing-long}
 use Rattle.verdicts.proofs.Listing.{records-are}
 use Rattle.verdicts.proofs.Bytes.{row-below, raster-at}
+use Rattle.page.specs.Sheet.{Sheet}
+use Rattle.page.specs.Scaled.{IsCell}
+use Rattle.page.specs.Refusals.{refusal, to-walk}
+use Rattle.page.proofs.Rows.{walk-passed}
+use Rattle.cells.specs.declared.Ground.{Ground}
+use Rattle.cells.specs.Cell.{GroundOf, Firm}
+use Rattle.cells.proofs.Grounds.{firm, whole-on-grid}
 use Rattle.walk.specs.declared.Seen.{Seen}
 use Rattle.walk.specs.declared.Entered.{Entered}
 use Rattle.walk.specs.Steps.{in-block, Counted, Examined, Recorded}
+
+-- ---- what a walk that no row refuses may begin with
+module _ (S : Sheet) (mode n : ℕ) (e : refusal (to-walk S mode n) ≡ 0) where
+  pub room : 4 ^ S .k ≤ n
+  room = walk-passed S mode n e .2
+
+  pub ready : {ground : Ground} → GroundOf S mode ground → Firm ground × IsCell (ground .k) 0 0 0 × (4 ^ ground .k ≤ n)
+  ready {ground} g = let p = walk-passed S mode n e in (firm (p .0) (p .1) g, whole-on-grid (ground .k), rw (g .depth) (p .2))
 
 -- ---- a list of n entries written over the beginning of another: it is as long, and the later entries are as they were
 module _ (xs old : List ℕ) {n : ℕ} (long : length xs ≡ n) where
@@ -69,4 +84,4 @@ pub listing-whole : (v : Verdicts) (k : ℕ) (old now : List ℕ) (r : Entered) 
     → (r .end ≡ length (records v k)) × (now ≡ records v k ++ drop (length (records v k)) old)
 listing-whole v k old now r room h =
     let e : records-from v 0 (k - 0) 0 0 ≡ records v k = ap (λ n. records-from v 0 n 0 0) (Nat.sub-zero k) ∙ records-are v k in let l = listing-long v k .2 in
-    (h .ends ∙ Nat.zero-add (length (records-from v 0 (k - 0) 0 0)) ∙ ap length e, h .written ∙ ap (sets old 0) e ∙ sets-eq (records v k) old 0 (omega arith) ∙ ap (λ n. records v k ++ drop n old) (Nat.zero-add (length (records v k))))
+    (h .written .ends ∙ Nat.zero-add (length (records-from v 0 (k - 0) 0 0)) ∙ ap length e, h .written .written ∙ ap (sets old 0) e ∙ sets-eq (records v k) old 0 (omega arith) ∙ ap (λ n. records v k ++ drop n old) (Nat.zero-add (length (records v k))))

@@ -72,6 +72,17 @@ ListedSigned = (S : Sheet) (mode : ℕ) (old : List ℕ) (r : Listed) (now : Lis
     (unfolded-at (S .k) (take (states-listing r .length) now) p q ≡ 2 ∷ [] → pos 0 <ℤ value-at S M N Q)
     × (unfolded-at (S .k) (take (states-listing r .length) now) p q ≡ 3 ∷ [] → value-at S M N Q <ℤ pos 0)
 
+-- and where it is 1 and the cell has no bend, the cell meets the curve
+abbrev pub ListedMeets : Type 0
+ListedMeets = (S : Sheet) (mode : ℕ) (old : List ℕ) (r : Listed) (now : List ℕ) → ListingPromise S mode old r now → refusal (to-walk S mode (length old)) ≡ 0 →
+    (p q : ℕ) → p < 2 ^ S .k → q < 2 ^ S .k → unfolded-at (S .k) (take (states-listing r .length) now) p q ≡ 1 ∷ [] → bend S (S .k) p q ≡ 0 → MeetsCurve S (S .k) p q
+
+-- every point M/Q, N/Q of the curve in the square lies in a finest cell that a record covers of which the colour is 1
+abbrev pub ListedCurve : Type 0
+ListedCurve = (S : Sheet) (mode : ℕ) (old : List ℕ) (r : Listed) (now : List ℕ) → ListingPromise S mode old r now → refusal (to-walk S mode (length old)) ≡ 0 →
+    (M N : ℤ) (Q : ℕ) → 1 ≤ Q → InCell S 0 0 0 M N Q → value-at S M N Q ≡ pos 0
+    → (h : Holder S (S .k) M N Q) × (unfolded-at (S .k) (take (states-listing r .length) now) (h .column) (h .row) ≡ 1 ∷ [])
+
 -- ---- what stays as it was, of the place lent to `raster` and of the one lent to `listing`
 -- everything, where the call is refused
 abbrev pub RefusedUnchanged : Type 0

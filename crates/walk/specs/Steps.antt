@@ -5,9 +5,13 @@ use mathlib.Core.List.{List}
 use Prim.Native.Nat.{ℕ, _+_, _-_, _/_, _%_, _^_, _≤_, _<_}
 use lib.Dec.{leb, ltb, eqb}
 use lib.ListN.{length, getD}
-use lib.Seq.{sets}
+use Rattle.algebra.specs.Written.{Written}
 use Rattle.verdicts.specs.Walking.{Verdicts}
 use Rattle.verdicts.specs.Operational.{visited-from, coloured-from, records-from, colour-from}
+use Rattle.page.specs.Sheet.{Sheet}
+use Rattle.page.specs.Refusals.{refusal, to-walk}
+use Rattle.cells.specs.Cell.{GroundOf}
+use Rattle.walk.specs.declared.Begun.{Begun}
 use Rattle.walk.specs.declared.Seen.{Seen}
 use Rattle.walk.specs.declared.Entered.{Entered}
 
@@ -29,6 +33,11 @@ in-block k n p q i = eqb (i % 2 ^ k / 2 ^ n) p && eqb (i / 2 ^ k / 2 ^ n) q
 
 abbrev pub Block : ℕ → ℕ → ℕ → ℕ → ℕ → List ℕ → List ℕ → Type 0
 Block k n p q c old now = Painted (in-block k n p q) (λ i. c) old now
+
+-- ---- `begin`: the number of the table, and where it is 0 the ground of the sheet
+pub record Begins (S : Sheet) (mode entries : ℕ) (r : Begun) : Type 0 where
+  pub number : r .refusal ≡ refusal (to-walk S mode entries)
+  pub ground : r .refusal ≡ 0 → GroundOf S mode (r .ground)
 
 -- ---- `one_cell` and `cut_cell`
 abbrev pub one-seen : ℕ → Seen
@@ -54,6 +63,5 @@ pub record Examined (v : Verdicts) (k level p q : ℕ) (old now : List ℕ) (r :
 
 -- `list_cell` and `list_parts`: the cell's records are written from `at` on, and no other entry changes
 pub record Recorded (v : Verdicts) (k level p q at : ℕ) (old now : List ℕ) (r : Entered) : Type 0 where
-  pub ends : r .end ≡ at + length (records-from v level (k - level) p q)
-  pub written : now ≡ sets old at (records-from v level (k - level) p q)
+  pub written : Written (records-from v level (k - level) p q) at old now (r .end)
   pub counted : Counted v k level p q (r .seen)

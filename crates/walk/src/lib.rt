@@ -2,9 +2,11 @@
 mod cell;
 mod examine;
 mod list;
+mod opening;
 mod paint;
 mod refusals;
 
+use cells::Ground;
 ghost use Rattle.page.specs.Sheet.{sheet-of};
 ghost use Rattle.walk.specs.Promises.{RasterPromise, ListingPromise};
 
@@ -22,6 +24,12 @@ pub enum Listed {
         coloured: u32,
     },
     Refused(u32),
+}
+
+// A walk begun: the number of the refusal, and no ground; or 0, and the ground of the sheet.
+struct Begun {
+    pub refusal: u32,
+    pub ground: Ground,
 }
 
 // What a walk has seen: cells visited, and finest cells coloured.
@@ -49,11 +57,11 @@ pub fn raster(
 ) -> Tallied
     ensures { λ r. ⌜ RasterPromise (sheet-of d (now (coefficients .entry)) x y s k) mode (now (place .entry)) r (now (place .exit)) ⌝ }
 {
-    let refusal = refusals::walk_refusal(d, coefficients, x, y, s, k, mode, place.len());
-    if refusal != 0 {
-        return Tallied::Refused(refusal);
+    let begun = opening::begin(d, coefficients, x, y, s, k, mode, place.len());
+    if begun.refusal != 0 {
+        return Tallied::Refused(begun.refusal);
     }
-    let ground = cells::ground_of(d, coefficients, x, y, s, k, mode);
+    let ground = begun.ground;
     let seen = examine::examine(place, ground, 0, 0, 0);
     Tallied::Tally {
         visited: seen.visited,
@@ -74,11 +82,11 @@ pub fn listing(
 ) -> Listed
     ensures { λ r. ⌜ ListingPromise (sheet-of d (now (coefficients .entry)) x y s k) mode (now (place .entry)) r (now (place .exit)) ⌝ }
 {
-    let refusal = refusals::walk_refusal(d, coefficients, x, y, s, k, mode, place.len());
-    if refusal != 0 {
-        return Listed::Refused(refusal);
+    let begun = opening::begin(d, coefficients, x, y, s, k, mode, place.len());
+    if begun.refusal != 0 {
+        return Listed::Refused(begun.refusal);
     }
-    let ground = cells::ground_of(d, coefficients, x, y, s, k, mode);
+    let ground = begun.ground;
     let entered = list::list_cell(place, 0, ground, 0, 0, 0);
     let seen = entered.seen;
     Listed::Records {

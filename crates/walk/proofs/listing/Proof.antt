@@ -1,19 +1,15 @@
 -- `walk::listing` meets its contract.
 use mathlib.Core.Path.{_≡_, sym, _∙_}
-use Prim.Native.Nat.{_^_, _≤_}
 use native.Mathlib.Nat as Nat
 use borrow.Author.Needs.{needs}
 use lib.ListN.{length}
 use mir.Facts.{toZ-ofZ}
 use Rattle.page.specs.Sheet.{Sheet, sheet-of}
-use Rattle.page.specs.Weight.{Accepted}
 use Rattle.page.specs.Refusals.{refusal, to-walk}
-use Rattle.page.proofs.Rows.{walk-passed}
-use Rattle.cells.specs.Cell.{GroundOf}
-use Rattle.cells.proofs.Grounds.{firm, whole-on-grid, verdicts-are}
+use Rattle.cells.proofs.Grounds.{verdicts-are}
 use Rattle.walk.specs.Answers.{verdicts}
-use Rattle.walk.specs.Steps.{Recorded}
-use Rattle.walk.proofs.Whole.{listing-whole, counted-whole}
+use Rattle.walk.specs.Steps.{Begins, Recorded}
+use Rattle.walk.proofs.Whole.{room, ready, listing-whole, counted-whole}
 use Rattle.walk.proofs.Promises.{listing-refused, listing-done}
 use Rattle.walk.proofs.listing.Statement.{statement}
 use Rattle.walk.proofs.listing.Tie as tie
@@ -22,49 +18,39 @@ use Rattle.walk.proofs.listing.Tie as tie
 abbrev sheet : tie.Start → Sheet
 sheet c = sheet-of (c .args .d) (c .args .coefficients .now) (c .args .x) (c .args .y) (c .args .s) (c .args .k)
 
--- the first row that holds, and what passes where none does
-refusal-is : (c : tie.After-walk-refusal) → let s = c .before .before in c .walk-refusal .result ≡ refusal (to-walk (sheet s) (s .args .mode) (length (s .args .place .now)))
-refusal-is c = let s = c .before .before in rw (toZ-ofZ (s .fits .x), toZ-ofZ (s .fits .y)) at (c .walk-refusal .ensures)
+-- how the walk begins
+begins : (c : tie.After-begin) → let s = c .before .before in Begins (sheet s) (s .args .mode) (length (s .args .place .now)) (c .begin .result)
+begins c = let s = c .before .before in rw (toZ-ofZ (s .fits .x), toZ-ofZ (s .fits .y)) at (c .begin .ensures)
 
-none : (c : tie.Else1) → let s = c .before .before .before in refusal (to-walk (sheet s) (s .args .mode) (length (s .args .place .now))) ≡ 0
-none c = sym (refusal-is (c .before)) ∙ c .if1 .left
+none : (c : tie.Else1) → let s = c .before .before .before .before in refusal (to-walk (sheet s) (s .args .mode) (length (s .args .place .now))) ≡ 0
+none c = sym (begins (c .before .before) .number) ∙ c .if1 .left
 
-passed : (c : tie.Else1) → let s = c .before .before .before in Accepted (sheet s) × (s .args .mode ≤ 1) × (4 ^ s .args .k ≤ length (s .args .place .now))
-passed c = let s = c .before .before .before in walk-passed (sheet s) (s .args .mode) (length (s .args .place .now)) (none c)
-
--- the ground of the sheet
-ground-is : (c : tie.After-ground-of) → let s = c .before .before .before .before in GroundOf (sheet s) (s .args .mode) (c .ground-of .result)
-ground-is c = let s = c .before .before .before .before in rw (toZ-ofZ (s .fits .x), toZ-ofZ (s .fits .y)) at (c .ground-of .ensures)
-
-walk-refusal-requires : tie.Need-walk-refusal-requires
-walk-refusal-requires c κs = search needs
+begin-requires : tie.Need-begin-requires
+begin-requires c κs = search needs
 
 returns : tie.Need-returns
-returns c = let s = c .before .before .before in listing-refused (sheet s) (s .args .mode) (s .args .place .now) (refusal-is (c .before)) (c .if1 .taken)
-
-ground-of-requires : tie.Need-ground-of-requires
-ground-of-requires c κs = let s = c .before .before .before in rw (toZ-ofZ (s .fits .x), toZ-ofZ (s .fits .y)) (passed c .0)
+returns c = let s = c .before .before .before .before in listing-refused (sheet s) (s .args .mode) (s .args .place .now) (begins (c .before .before) .number) (c .if1 .taken)
 
 list-cell-requires : tie.Need-list-cell-requires
-list-cell-requires c κs = let g = ground-is (c .before) in let h = passed (c .before .before) in (firm (h .0) (h .1) g, whole-on-grid (c .before .ground-of .result .k), rw (g .depth, Nat.zero-add, Nat.sub-zero) (h .2))
+list-cell-requires c κs = let b = c .before .before in let s = b .before .before .before .before in rw (Nat.zero-add, Nat.sub-zero) (ready (sheet s) (s .args .mode) _ (none b) (begins (b .before .before) .ground (b .if1 .left)))
 
 same-length : tie.Need-same-length
 same-length c = search needs
 
 returns-2 : tie.Need-returns-2
 returns-2 c =
-    let e = c .before .before .before in let f = e .before .before in let g = ground-is f in let s = f .before .before .before .before in let a = s .args in let v = verdicts (sheet s) (a .mode) in
+    let e = c .before .before .before in let b = e .before .before .before in let g = begins (b .before .before) .ground (b .if1 .left) in let s = b .before .before .before .before in let a = s .args in
+    let v = verdicts (sheet s) (a .mode) in
     let w : Recorded v (a .k) 0 0 0 0 (a .place .now) (e .list-cell .last .0) (e .list-cell .result) = rw (verdicts-are g, g .depth) at (e .list-cell .ensures) in
-    let n = counted-whole v (a .k) (e .list-cell .result .seen) (w .counted) in let l = listing-whole v (a .k) (a .place .now) _ (e .list-cell .result) (passed (f .before) .2) w in
-    listing-done (sheet s) (a .mode) (a .place .now) (none (f .before)) (n .0) (n .1) (l .0) (l .1)
+    let n = counted-whole v (a .k) (e .list-cell .result .seen) (w .counted) in let l = listing-whole v (a .k) (a .place .now) _ (e .list-cell .result) (room (sheet s) (a .mode) _ (none b)) w in
+    listing-done (sheet s) (a .mode) (a .place .now) (none b) (n .0) (n .1) (l .0) (l .1)
 
 pub listing-spec : {M : Type 1} → statement M
 listing-spec =
     tie.close
     (tie.spec
-    walk-refusal-requires
+    begin-requires
     returns
-    ground-of-requires
     list-cell-requires
     same-length
     returns-2)
