@@ -12,7 +12,6 @@ use lib.ListN.{length, take, drop, length-drop}
 use lib.Seq.{take-all, take-length, drop-drop}
 use Rattle.bytes.specs.Bytes.{indexOf, indexAfter, slice}
 use Rattle.page.specs.SheetText.{Line, ended-line, before-line, lines, before-field, fields, Text, bad-line, line-then}
-use Rattle.lines.specs.declared.Number.the-variants as Number
 use Rattle.lines.specs.Steps.{fields-after}
 
 -- ---- the place of the first byte c

@@ -1,1 +1,1 @@
-// The starred sheets of the page: a table in specs/, and one theorem in proofs/. There is no code here.
+// The starred sheets of the page: a table in specs/, and one theorem in proofs/. No code.

@@ -1,4 +1,5 @@
 // What a cell's verdict is. The rest of the crate is definitions and theorems: what follows from verdicts alone.
+// An inner crate: types, and no functions.
 
 // Above, below or open, with both bounds.
 pub enum Verdict {

@@ -1,5 +1,6 @@
 // Whole numbers as words of eight bytes, for the programs that the comparisons run. A negative number is coded by its top bit and the number of
 // steps that it lies below -1, so that every number of its type has one code and every code is a number.
+// An inner crate: what its functions require, every caller proves.
 ghost use Prim.Native.Nat.{_+_, _≤_};
 ghost use lib.ListN.{length};
 
