@@ -1,0 +1,159 @@
+"""Edits of the small tree that break the rules of tests/faces.py on what libraries show: for each rule the one fault that is told, and the edits.
+
+An edit is a file with a text and another for it; or with one text, which is put at the file's end. One of `INNER` names one more inner crate.
+"""
+import faces
+
+LIB, PART, VERDICTS = "crates/probe/src/lib.rt", "crates/probe/src/refusals.rt", "crates/verdicts/src/lib.rt"
+NUMBERS, SPECS, PAGE = "crates/numbers/src/lib.rt", "crates/probe/specs/Promises.antt", "docs/PROMISES.md"
+# what the sources have
+SHEET = "sheet-of d (now (coefficients .entry)) x y s k"
+FILLED = "FillPromise mode (now (place .entry)) r (now (place .exit))"
+BROUGHT = "use Rattle.probe.specs.Promises.{CheckPromise, FillPromise};\n"
+TWICE = "OneCheck = (S : Sheet) (r t : Checked) → CheckPromise S r → CheckPromise S t → r ≡ t"
+PLACES = "→ (r ≡ t) × (now ≡ after)"
+TYPES, FUNCTIONS = "An inner crate: types, and no functions.", "An inner crate: what its functions require, every caller proves."
+# rows of docs/PROMISES.md, and the head of a table there
+ONE = "| `check` | `crates/probe/specs/Promises.antt` `OneCheck` | `crates/probe/proofs/Promises.antt` `one-check` |\n"
+SAID = "| sentence | statement | theorem |\n|---|---|---|\n"
+TRIED = "| `probe/must-fail/another_number` | `check`: the depth for the degree | the number |\n"
+MORE = ("crates/probe/must-fail/more.edit", "file: src/lib.rt\nold: x\nnew: y\n")
+# a function that asks for something, and one of a type that does
+ASKING = "pub fn asking(n: u32) -> u32\n    requires { ⌜ FillPromise n ⌝ }\n{\n    n\n}\n"
+METHOD = "impl Checked {\n    pub fn asking(self) -> u32\n        requires { ⌜ FillPromise self ⌝ }\n    {\n        8\n    }\n}\n"
+# faults that are told in several ways
+ASKS = "is a public call and has a `requires`"
+NO_PROMISE = f"probe::fill ensures what is no promise of {SPECS}"
+NOT_ONE = f"OneCheck of {SPECS} does not say that CheckPromise has one outcome"
+PLACES_NOT_ONE = f"OneFill of {SPECS} does not say that FillPromise has one outcome"
+
+# the ways in which a library shows a function: its name from outside, and the edits
+WAYS = [
+    ("probe::asking", (LIB, ASKING)),
+    ("probe::asking", (LIB, ASKING.replace("pub fn asking(n: u32)", "pub\nfn\nasking\n(\n    n: u32,\n)\n"))),
+    ("probe::asking", (LIB, "pub const fn asking(n: u32) requires { ⌜ FillPromise n ⌝ } {}\n")),
+    ("probe::asking", (LIB, "pub fn asking<'a>(n: &'a [u8]) -> u32 requires { ⌜ FillPromise n ⌝ } { 8 }\n")),
+    # C may call it
+    ("probe::asking", (LIB, 'pub extern "C" fn asking(n: u32) requires { ⌜ FillPromise n ⌝ } {}\n')),
+    ("probe::asking", (PART, '#[no_mangle]\npub extern "C" fn asking(n: u32) requires { ⌜ n ≤ 8 ⌝ } {}\n')),
+    # a public module
+    ("probe::refusals::first", (LIB, "mod refusals;", "pub mod refusals;")),
+    ("probe::more::asking", (LIB, f"pub mod more {{\n{ASKING}}}\n")),
+    ("probe::more::within::asking", (LIB, f"pub mod more {{\n    pub mod within {{\n{ASKING}    }}\n}}\n")),
+    ("probe::more::asking", (LIB, "pub mod more;\n"), ("crates/probe/src/more.rt", f"// More.\n{ASKING}")),
+    # its own, passed on: by path, list, star, another name, and with its module
+    ("probe::first", (LIB, "pub use refusals::first;\n")),
+    ("probe::first", (LIB, "pub use self::refusals::first;\n")),
+    ("probe::first", (LIB, "pub use crate::refusals::{first};\n")),
+    ("probe::first", (LIB, "pub use refusals::*;\n")),
+    ("probe::last", (LIB, "pub use refusals::first as last;\n")),
+    ("probe::last", (LIB, "pub use refusals::{first as last,};\n")),
+    ("probe::more", (LIB, "use refusals::first as known;\npub use known as more;\n")),
+    ("probe::more::first", (LIB, "pub use refusals as more;\n")),
+    ("probe::more::first", (LIB, "pub use refusals::{self as more};\n")),
+    ("probe::more::first", (LIB, "pub mod more {\n    pub use super::refusals::first;\n}\n")),
+    # another crate's, passed on in the same ways
+    ("probe::half", (LIB, "pub use numbers::half;\n")),
+    ("probe::half", (LIB, "pub use numbers::{CEILING, half};\n")),
+    ("probe::half", (LIB, "pub use {verdicts::{Verdict as V}, numbers::{half}};\n")),
+    ("probe::half", (LIB, "pub use numbers::*;\n")),
+    ("probe::third", (LIB, "pub use numbers::half as third;\n")),
+    ("probe::numbers::half", (LIB, "pub use numbers;\n")),
+    ("probe::more::half", (LIB, "pub use numbers as more;\n")),
+    # a function of a type that is shown, or that is met by what another holds
+    ("probe::Checked::asking", (LIB, METHOD)),
+    ("probe::Checked::asking", (LIB, f"mod more {{\n    mod within {{\n        use crate::Checked;\n{METHOD}    }}\n}}\n")),
+    ("probe::Checked::asking", (LIB, f"mod more {{\n    use crate::Checked as C;\n{METHOD.replace('impl Checked', 'impl C')}}}\n")),
+    ("probe::Checked::asking", (LIB, f"type C = Checked;\n{METHOD.replace('impl Checked', 'impl C')}")),
+    ("probe::Known::asking", (LIB, METHOD.replace("Checked", "Known")), (LIB, "{ verdict: Verdict }", "{ verdict: Verdict, known: Known }")),
+    ("probe::Known::asking", (LIB, METHOD.replace("Checked", "Known")), (LIB, "pub const KNOWN: Known = Known { n: 8 };\n")),
+    ("probe::Verdict::asking", (VERDICTS, METHOD.replace("Checked", "Verdict")), (VERDICTS, TYPES, FUNCTIONS)),
+    # a new crate
+    ("asking::asking", ("crates/asking/src/lib.rt", f"// Calls.\n{ASKING}")),
+]
+
+BREAKS = {
+    faces.contracts: [
+        *((f"{name} {ASKS}", *edits) for name, *edits in WAYS),
+        ("probe::more is a public call and has not one `ensures`", (LIB, "pub fn more() {}\n")),
+        ("probe::fill is a public call and has not one `ensures`", (LIB, f"⌜ {FILLED} ⌝ }}", f"⌜ {FILLED} ⌝ }}\n    ensures {{ λ r. ⌜ r ⌝ }}")),
+        ("probe::fill is a public call and has a `ghost`", (LIB, ") -> u32\n    ensures", ") -> u32\n    ghost { FillPromise }\n    ensures")),
+        (NO_PROMISE, (LIB, f"⌜ {FILLED} ⌝", f"⌜ {FILLED} × (r ≡ r) ⌝")),
+        (NO_PROMISE, (LIB, " r (now (place .exit))", " r (now (place .entry))")),
+        (NO_PROMISE, (LIB, "FillPromise mode", "FillPromise 8")),
+        (NO_PROMISE, (LIB, "fn fill(\n    mode: u32,", "fn fill(\n    more: u32,\n    mode: u32,")),
+        (NO_PROMISE, (LIB, "fn fill(\n", "fn fill<'a>(\n"), (LIB, "&mut [u8]", "&'a mut [u8]"), (LIB, " r (now (place .exit))", " r")),
+        (NO_PROMISE, (LIB, "FillPromise};", "OtherPromise as FillPromise};")),
+        (NO_PROMISE, (LIB, BROUGHT, BROUGHT.replace(", Fill", "};\nghost use Rattle.page.specs.Sheet.{Fill"))),
+        (NO_PROMISE, (LIB, "mod more {\n    ghost use Rattle.page.specs.Sheet.{FillPromise};\n}\n")),
+        (NO_PROMISE, (SPECS, "abbrev pub FillPromise", "abbrev FillPromise")),
+        (NO_PROMISE, (SPECS, "FillPromise : ℕ", "FillPromise′ : ℕ")),
+        (NO_PROMISE.replace("fill", "check"), (LIB, SHEET, SHEET.replace("x y", "y x"))),
+        ("probe::check speaks of another sheet than that of crates/page/specs/Sheet.antt", (LIB, "page.specs.Sheet.{", "page.specs.Facts.{")),
+        ("probe::fill ensures something of an answer mode, which hides what it is given",
+         (LIB, f"λ r. ⌜ {FILLED}", f"λ mode. ⌜ {FILLED.replace(' r ', ' mode ')}")),
+        ("probe::fill ensures something by a word of the operator FillPromise_", (LIB, "{sheet-of};", "{sheet-of, FillPromise_};")),
+        ("probe::fill is given a reference within another type", (LIB, "place: &mut [u8]", "place: &mut [&mut [u8]; 8]")),
+        ("probe::fill answers a reference", (LIB, ") -> u32\n    ensures", ") -> &mut [u8]\n    ensures")),
+        ("probe::same ensures what is no promise of crates/numbers/specs/Promises.antt",
+         (LIB, "pub use numbers::same;\n"), (NUMBERS, "\npub fn same(n: u64) -> u64\n    ensures { λ r. ⌜ Same n r ⌝ }\n{\n    n\n}\n")),
+    ],
+    faces.one_outcome: [
+        (f"docs/PROMISES.md has not one statement of {SPECS} that probe::check has one outcome", (PAGE, ONE, ""), (PAGE, SAID, SAID + ONE)),
+        *((NOT_ONE, (SPECS, TWICE, text)) for text in (
+            TWICE.replace("r ≡ t", "r ≡ r"),
+            TWICE.replace("r ≡ t", "(Checked → r ≡ t)"),
+            TWICE.replace("CheckPromise S t → ", ""),
+            TWICE.replace("CheckPromise S t", "CheckPromise S r"),
+            TWICE.replace("(S : Sheet)", "(S Z : Sheet)").replace("CheckPromise S t", "CheckPromise Z t"),
+            TWICE.replace("(S : Sheet)", "(Z : Sheet)"),
+            TWICE.replace("(r t : Checked)", "(r t : Checked) (h : Sheet → Checked)"),
+            TWICE + "\nOneCheck = CheckPromise",
+        )),
+        (NOT_ONE.replace("OneCheck", "OneFill"), (PAGE, ONE, ONE.replace("OneCheck", "OneFill").replace("one-check", "one-fill")), (PAGE, SAID, SAID + ONE)),
+        (PLACES_NOT_ONE, (SPECS, PLACES, "→ r ≡ t")),
+        (PLACES_NOT_ONE, (SPECS, PLACES, "→ (r ≡ t) × (now ≡ now)")),
+        ("docs/PROMISES.md has a statement on the call `more`, which nothing shows", (PAGE, ONE, ONE + ONE.replace("`check`", "`more`"))),
+    ],
+    faces.wrong_answers: [
+        ("docs/PROMISES.md has 1 wrong answers of probe::check, and not 2", (PAGE, "`check`: the depth", "`fill`: the depth")),
+        ("docs/PROMISES.md has 0 wrong answers of probe::again, and not 2",
+         (LIB, "pub use check as again;\n"), (PAGE, ONE, ONE + ONE.replace("`check`", "`again`"))),
+        ("docs/PROMISES.md does not say of which call `probe/must-fail/more` is a wrong answer",
+         MORE, (PAGE, TRIED, TRIED + "| `probe/must-fail/more` | `check` refuses more | the number |\n")),
+        ("docs/PROMISES.md has `probe/must-fail/more` as a wrong answer of first, which probe does not show",
+         MORE, (PAGE, TRIED, TRIED + "| `probe/must-fail/more` | `first`: more refused | the number |\n")),
+    ],
+    faces.shown_types: [
+        ("probe::write_all is of no crate here", (LIB, "pub use io::write_all;\n")),
+        ("probe::* is of no crate here", (LIB, "pub use io::*;\n")),
+        ("more is no inner crate and has no public call", ("crates/more/src/lib.rt", "// Types.\npub struct More {\n    pub n: u32,\n}\n")),
+        ("probe shows the type Checked, which asks for a proof", (LIB, "    Refused(u32),\n", "    Refused(u32),\n    ghost { FillPromise }\n")),
+        ("probe shows the type Lent, which holds a reference", (LIB, "pub struct Lent<'a> {\n    pub place: &'a mut [u8],\n}\n")),
+    ],
+    faces.inner_crates: [
+        (f"{NUMBERS} does not say '{FUNCTIONS}'", (NUMBERS, f"// {FUNCTIONS}\n", "")),
+        (f"{VERDICTS} does not say '{FUNCTIONS}'", (VERDICTS, "\npub fn more() {}\n")),
+        (f"{VERDICTS} does not say '{TYPES}'", (VERDICTS, f"// {TYPES}\n", "")),
+        (f"crates/page/src/lib.rt does not say '{TYPES}'", ("crates/page/src/lib.rt", "\npub const MORE: u32 = 8;\n")),
+        ("numbers is an inner crate, and C may call more", (NUMBERS, '\npub extern "C" fn more() {}\n')),
+        ("crates/more is neither a library nor a program", ("crates/more/stdin", "more\n")),
+        ("tests/faces.py names the inner crate more, which is not there", ("INNER", "more")),
+        ("tests/faces.py names the inner crate listing, which is a program", ("INNER", "listing")),
+    ],
+}
+
+# what may be done: what it is, and the edits
+KEEPS = [
+    ("a function for the crate alone", (LIB, ASKING.replace("pub fn", "pub(crate) fn"))),
+    ("a public function in a module that is not shown", (LIB, f"mod more {{\n{ASKING}}}\n")),
+    ("a function that another module of the crate uses", (LIB, "use refusals::first;\n")),
+    ("a const and a type that are shown", (LIB, "pub use numbers::CEILING;\npub use verdicts::{Verdict as V};\npub type W = Verdict;\n")),
+    ("a module of types", (LIB, "pub mod more {\n    pub struct More(u32);\n}\n")),
+    ("a function of a type that stays inside", (LIB, METHOD.replace("Checked", "Known"))),
+    ("a function of a type, for the crate alone", (LIB, METHOD.replace("pub fn", "fn"))),
+    ("a program's functions", ("crates/listing/src/main.rt", f"\n{ASKING}")),
+    ("a call in a module", (LIB, "// Fill a place.\npub fn fill(", "// Fill a place.\npub use more::fill;\nmod more {\npub fn fill("), (LIB, "}\n")),
+    ("a call that is shown twice", (LIB, "pub mod more {\n    pub use super::fill;\n}\n")),
+    ("a place that is lent for a time", (LIB, "fn fill(\n", "fn fill<'a>(\n"), (LIB, "&mut [u8]", "&'a mut [u8]")),
+]

@@ -1,0 +1,99 @@
+"""The rules of tests/tree.py, each broken: a small tree that keeps all of them is edited, and the edit's one fault is told, in its words, and no other.
+
+tests/small_tree.py has the tree, tests/tree_breaks.py and tests/face_breaks.py have the edits, and some that break nothing. A rule that no edit breaks is
+a fault too.
+"""
+import pathlib
+import subprocess
+import sys
+import tempfile
+
+sys.dont_write_bytecode = True  # nothing is left in the tree
+import face_breaks
+import faces
+import small_tree
+import sources
+import tree
+import tree_breaks
+
+
+def write(name, text):
+    path = sources.at(name)
+    path.parent.mkdir(parents=True, exist_ok=True)
+    path.write_bytes(text.encode())
+
+
+def edit(name, *change):
+    """Replaces a text of a file by another; or adds a text at its end, which makes the file where there is none. Or names one more inner crate."""
+    if name == "INNER":
+        faces.INNER += change
+        return
+    path = sources.at(name)
+    text = sources.text_of(path) if path.is_file() else ""
+    if len(change) == 1:
+        write(name, text + change[0])
+    elif text.count(change[0]) == 1:
+        write(name, text.replace(*change))
+    else:
+        raise ValueError(f"{name} has {text.count(change[0])} times: {change[0]}")
+
+
+def restore(whole):
+    """The small tree as it was."""
+    for path in [path for path in sources.ROOT.rglob("*") if path.is_file() and ".git" not in path.relative_to(sources.ROOT).parts]:
+        if sources.named(path) not in whole:
+            path.unlink()
+    for path in sorted(sources.ROOT.glob("crates/*/**/"), reverse=True):
+        if path.is_dir() and not any(path.iterdir()):
+            path.rmdir()
+    for name, text in whole.items():
+        write(name, text)
+    faces.INNER = small_tree.INNER
+
+
+def faults():
+    return [(rule, fault) for rule in tree.RULES for fault in rule()]
+
+
+def told(rule, edits):
+    """The faults that are found after some edits. The page of costs is brought up to date, as the rule for it says, unless that rule is to be broken."""
+    for change in edits:
+        edit(*change)
+    if rule is not tree.costs:
+        tree.counting().update()
+    return faults()
+
+
+def main():
+    wrong, rules = [], {**tree_breaks.BREAKS, **face_breaks.BREAKS}
+    breaks = [(rule, *one) for rule, several in rules.items() for one in several]
+    keeps = tree_breaks.KEEPS + face_breaks.KEEPS
+    with tempfile.TemporaryDirectory() as home:
+        sources.ROOT, faces.INNER = pathlib.Path(home).resolve(), small_tree.INNER
+        subprocess.run(["git", "init", "-q"], cwd=home, check=True)
+        for name, text in small_tree.FILES.items():
+            write(name, text)
+        tree.counting().update()
+        whole = {**small_tree.FILES, "docs/BENCHMARKS.md": sources.document("BENCHMARKS.md")}
+        if "| 7 | 9 |" not in whole["docs/BENCHMARKS.md"]:
+            wrong.append("bench/cost --update does not keep the times")
+        wrong += [f"the whole tree: {rule.__name__}: {fault}" for rule, fault in faults()]
+        for rule, fault, *edits in breaks:
+            found = told(rule, edits)
+            if found != [(rule, fault)]:
+                wrong.append(f"{edits}\n    should be told of by {rule.__name__}: {fault}")
+                wrong += [f"    is told of by {one.__name__}: {other}" for one, other in found] or ["    is not told of"]
+            restore(whole)
+        for what, *edits in keeps:
+            wrong += [f"{what}: {one.__name__}: {fault}" for one, fault in told(None, edits)]
+            restore(whole)
+        wrong += [f"after all edits: {rule.__name__}: {fault}" for rule, fault in faults()]
+    wrong += [f"no edit breaks the rule {rule.__name__}" for rule in tree.RULES if not rules.get(rule)]
+    for line in wrong:
+        print(line)
+    print(f"tree tests: {len(breaks)} edits that break one of {len(tree.RULES)} rules, {len(keeps)} that break none, {len(wrong)} lines of faults")
+    return 1 if wrong else 0
+
+
+if __name__ == "__main__":
+    sys.exit(main())
