@@ -13,7 +13,10 @@ BROUGHT = "use Rattle.probe.specs.Promises.{CheckPromise, FillPromise};\
 TWICE = "OneCheck = (S : Sheet) (r t : Checked) → CheckPromise S r → CheckPromise S t → r ≡ t"
 PLACES = "→ (r ≡ t) × (now ≡ after)"
 TYPES, FUNCTIONS = "An inner crate: types, and no functions.", "An inner crate: what its functions require, every caller proves."
+# another promise in the place of the one there
+OTHER = (LIB, BROUGHT, BROUGHT.replace("Fill", "Other")), (LIB, "FillPromise mode", "OtherPromise mode")
 # rows of docs/PROMISES.md, and the head of a table there
+PROMISED = "| `check` | `crates/probe/specs/Promises.antt` `CheckPromise` |\n"
 ONE = "| `check` | `crates/probe/specs/Promises.antt` `OneCheck` | `crates/probe/proofs/Promises.antt` `one-check` |\n"
 SAID = "| sentence | statement | theorem |\n|---|---|---|\n"
 TRIED = "| `probe/must-fail/another_number` | `check`: the depth for the degree | the number |\n"
@@ -86,8 +89,9 @@ BREAKS = {
         (NO_PROMISE, (LIB, "FillPromise};", "OtherPromise as FillPromise};")),
         (NO_PROMISE, (LIB, BROUGHT, BROUGHT.replace(", Fill", "};\nghost use Rattle.page.specs.Sheet.{Fill"))),
         (NO_PROMISE, (LIB, "mod more {\n    ghost use Rattle.page.specs.Sheet.{FillPromise};\n}\n")),
-        (NO_PROMISE, (SPECS, "abbrev pub FillPromise", "abbrev FillPromise")),
-        (NO_PROMISE, (SPECS, "FillPromise : ℕ", "FillPromise′ : ℕ")),
+        (NO_PROMISE, *OTHER),
+        (NO_PROMISE, *OTHER, (SPECS, "\nabbrev OtherPromise : Sheet → Type 0\nOtherPromise S = Sheet\n")),
+        (NO_PROMISE, *OTHER, (SPECS, "use Prim.Native.Nat.{ℕ}\n", "use Prim.Native.Nat.{ℕ}\npub use Rattle.page.specs.Facts.{OtherPromise}\n")),
         (NO_PROMISE.replace("fill", "check"), (LIB, SHEET, SHEET.replace("x y", "y x"))),
         ("probe::check speaks of another sheet than that of crates/page/specs/Sheet.antt", (LIB, "page.specs.Sheet.{", "page.specs.Facts.{")),
         ("probe::fill ensures something of an answer mode, which hides what it is given",
@@ -97,6 +101,10 @@ BREAKS = {
         ("probe::fill answers a reference", (LIB, ") -> u32\n    ensures", ") -> &mut [u8]\n    ensures")),
         ("probe::same ensures what is no promise of crates/numbers/specs/Promises.antt",
          (LIB, "pub use numbers::same;\n"), (NUMBERS, "\npub fn same(n: u64) -> u64\n    ensures { λ r. ⌜ Same n r ⌝ }\n{\n    n\n}\n")),
+    ],
+    faces.promises_told: [
+        ("docs/PROMISES.md does not give CheckPromise as the promise of probe::check", (PAGE, "`CheckPromise`", "`FillPromise`")),
+        ("docs/PROMISES.md does not give CheckPromise as the promise of probe::check", (PAGE, PROMISED, "")),
     ],
     faces.one_outcome: [
         (f"docs/PROMISES.md has not one statement of {SPECS} that probe::check has one outcome", (PAGE, ONE, ""), (PAGE, SAID, SAID + ONE)),
@@ -118,7 +126,7 @@ BREAKS = {
     faces.wrong_answers: [
         ("docs/PROMISES.md has 1 wrong answers of probe::check, and not 2", (PAGE, "`check`: the depth", "`fill`: the depth")),
         ("docs/PROMISES.md has 0 wrong answers of probe::again, and not 2",
-         (LIB, "pub use check as again;\n"), (PAGE, ONE, ONE + ONE.replace("`check`", "`again`"))),
+         (LIB, "pub use check as again;\n"), *((PAGE, row, row + row.replace("`check`", "`again`")) for row in (PROMISED, ONE))),
         ("docs/PROMISES.md does not say of which call `probe/must-fail/more` is a wrong answer",
          MORE, (PAGE, TRIED, TRIED + "| `probe/must-fail/more` | `check` refuses more | the number |\n")),
         ("docs/PROMISES.md has `probe/must-fail/more` as a wrong answer of first, which probe does not show",

@@ -5,6 +5,7 @@ root or in a public module, its own or another crate's that it passes on by path
 and one that C may call. A call
 
 - has no `requires`, and one `ensures`, which is a promise of its crate's specs/Promises.antt on all that is given and on the outcome, and no more;
+  and docs/PROMISES.md gives that promise for it;
 - has one outcome: docs/PROMISES.md gives for it a statement of specs/Promises.antt, and a theorem, that no two outcomes satisfy the promise;
 - has two wrong answers at least: edits of its crate whose rows in docs/PROMISES.md begin with its name.
 """
@@ -165,6 +166,14 @@ def kept():
             yield call, promise_of(call)
         except Fault:
             continue
+
+
+def promises_told():
+    rows = [cells for columns, cells in tables("PROMISES.md") if columns[:2] == ["call", "promise"]]
+    for call, promise in kept():
+        facts = [fact for cells in rows if re.match(rf"`{call.name}`", cells[0]) for fact in names_in(cells[1], "specs") if fact[0] == call.crate]
+        if facts != [(call.crate, "Promises", promise.name)]:
+            yield f"docs/PROMISES.md does not give {promise.name} as the promise of {call.shown}"
 
 
 # ---- one outcome

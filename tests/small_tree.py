@@ -170,6 +170,11 @@ one-fill mode old r t now after p q = (p .0 ∙ sym (q .0), p .1 ∙ sym (q .1))
     "docs/PROMISES.md": """\
 # What is promised
 
+| call | promise |
+|---|---|
+| `check` | `crates/probe/specs/Promises.antt` `CheckPromise` |
+| `fill`, which leaves the place as it was | `crates/probe/specs/Promises.antt` `FillPromise` |
+
 | call | statement | theorem |
 |---|---|---|
 | `check` | `crates/probe/specs/Promises.antt` `OneCheck` | `crates/probe/proofs/Promises.antt` `one-check` |

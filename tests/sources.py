@@ -17,7 +17,7 @@ USING = r"^[ \t]*((?:(?:unfoldable|pub)[ \t]+)*)use\b"
 USE = re.compile(USING + rf"[ \t]+([^\s{{}};]+?)(?:\.\{{([^{{}}]*)\}}|[ \t]+as[ \t]+({NAME}))?[ \t]*$", re.M)
 GHOST_USING = r"\bghost\s+use\b"
 GHOST_USE = re.compile(GHOST_USING + rf"\s+([^\s{{}};]+?)(?:\.\{{([^{{}}]*)\}}|\s+as\s+({NAME}))?\s*;")
-SIGNED = re.compile(rf"((?:(?:unfoldable|abbrev|axiom|pub|record|data) )*)({NAME}) (?:\{{[^}}]*\}} )?: (.*)")
+SIGNED = re.compile(rf"(?!let |where |\| )((?:(?:unfoldable|abbrev|axiom|pub|record|data) )*)((?:(?![=:] ){NAME} )+)(?:\{{[^}}]*\}} )?: (.*)")
 
 # a line that brings names in: where it stands, its marks, the path, and each item (none for a module) with the name that it gets
 Use = collections.namedtuple("Use", "line marks home items")
@@ -115,8 +115,8 @@ def signatures(path):
     """What a file of antt declares with a type, wherever it stands and however many lines it takes."""
     for number, margin, text in blocks(path):
         found = SIGNED.match(text)
-        if found:
-            yield Signature(number, margin, found[1].split(), found[2], re.split(r" where\b", found[3])[0])
+        for name in found[2].split() if found else ():
+            yield Signature(number, margin, found[1].split(), name, re.split(r" where\b", found[3])[0])
 
 
 # ---- documents

@@ -265,7 +265,7 @@ def places():
 
 RULES = (
     citations, statements, edits, sentences, mentions, the_map, readable, disguises, axioms_and_holes, definitions_alone, lengths, imports,
-    faces.inner_crates, faces.shown_types, faces.contracts, faces.one_outcome, faces.wrong_answers, costs, places,
+    faces.inner_crates, faces.shown_types, faces.contracts, faces.promises_told, faces.one_outcome, faces.wrong_answers, costs, places,
 )
 
 

@@ -63,6 +63,7 @@ BREAKS = {
         (UNPROVED, (SPECS, "\nabbrev pub NoDegree : Type 0\nNoDegree = (S : Sheet) → S .d ≡ 0\n")),
         (UNPROVED, (SPECS, "\nunfoldable abbrev pub NoDegree\n    : Type 0\nNoDegree = (S : Sheet) → S .d ≡ 0\n")),
         (UNPROVED, (SPECS, "\nmodule _ where\n  abbrev pub NoDegree : Type 0\n  NoDegree = (S : Sheet) → S .d ≡ 0\n")),
+        (UNPROVED, (SPECS, CLOSED, CLOSED.replace("OwnDegree", "OwnDegree NoDegree"))),
         (f"{SPECS} declares OwnDegree with Type (0), where a statement has Type 0", (SPECS, CLOSED, "abbrev pub OwnDegree : Type (0)\n")),
         (f"{SPECS} declares OwnDegree with Type _, where a statement has Type 0", (SPECS, CLOSED, "abbrev pub OwnDegree {ℓ} : Type _\n")),
         (f"`{SPECS}` `OwnDegree` | `{PROVED}` `own-degree`, `two` has not one theorem for each closed statement",
