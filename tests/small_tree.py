@@ -4,6 +4,7 @@ It has two inner crates, `numbers` with a function and `verdicts` with a type; t
 program, `listing`. Nobody proves it: only its outside counts.
 """
 INNER = ("numbers", "verdicts", "page")
+LAW = ("page",)
 
 FILES = {
     "crates.txt": """\

@@ -8,6 +8,7 @@
 - Every file of a crate that a document names stands in the tree, and docs/DESIGN.md names each file of src/, specs/ and proofs/.
 - A source means what its lines show: no comment stands in the midst of code, no character is unseen, no name is that of a library.
 - No axiom and no hole stands in a crate, and no function of C is declared in one. No definition and no contract rests on anything of a folder proofs/.
+- What must be read for the law, the definitions of document 01 and what they name, rests on nothing else of the tree, and has no function.
 - No file of a crate, of tests/ or of bench/ is over 400 lines, and no source brings in a name that it does not use.
 - Inner crates say that they are, and what other libraries show to the outside is held to its promises: tests/faces.py.
 - docs/BENCHMARKS.md counts the lines and the edits of each crate as bench/cost does.
@@ -29,6 +30,8 @@ import sources
 from sources import NAME, at, brings, code_of, document, named, names_in, oddities, signatures, specs_of, tables, text_of, uses
 
 LONGEST = 400
+# the left column of docs/DESIGN.md: document 01 as definitions, and what they rest on
+LAW = ("algebra", "forms", "verdicts", "page")
 # what is of Type 0 and no statement: a kind of thing
 KINDS = {("forms", "Points", "Point"), ("verdicts", "Walking", "Verdicts")}
 # the documents that cite by file and name
@@ -213,6 +216,17 @@ def definitions_alone():
                 yield f"{named(path)}:{number} rests on something of proofs/"
 
 
+def law():
+    """Nothing but the law stands below it, and no code."""
+    for crate, below in re.findall(r"^(\w+):(.*)$", text_of(at("crates.txt")), re.M):
+        for name in below.split() if crate in LAW else ():
+            if name not in LAW:
+                yield f"crates.txt has {crate}, which is of the law, rest on {name}"
+    for crate, root in faces.roots().items():
+        for function in [one for module in root.within() for one in module.functions()] if root and crate in LAW else ():
+            yield f"{crate} is of the law and has the function {function.name}"
+
+
 def lengths():
     for path in [*sources.sources(), *sorted(at("tests").glob("*.py")), *sorted(at("bench").glob("*"))]:
         count = len(text_of(path).splitlines())
@@ -264,7 +278,7 @@ def places():
 
 
 RULES = (
-    citations, statements, edits, sentences, mentions, the_map, readable, disguises, axioms_and_holes, definitions_alone, lengths, imports,
+    citations, statements, edits, sentences, mentions, the_map, readable, disguises, axioms_and_holes, definitions_alone, law, lengths, imports,
     faces.inner_crates, faces.shown_types, faces.contracts, faces.promises_told, faces.one_outcome, faces.wrong_answers, costs, places,
 )
 

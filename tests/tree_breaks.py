@@ -129,6 +129,12 @@ BREAKS = {
     ],
 
     # ---- lengths and imports
+    tree.law: [
+        ("crates.txt has page, which is of the law, rest on numbers", ("crates.txt", "page:\n", "page: numbers\n")),
+        ("page is of the law and has the function first",
+         ("crates/page/src/lib.rt", "No code: the page as definitions.", "An inner crate: what its functions require, every caller proves."),
+         ("crates/page/src/lib.rt", "fn first() -> u64 {\n    1\n}\n")),
+    ],
     tree.lengths: [
         (f"{PROVED} has 401 lines, over 400", (PROVED, "-- more\n" * 395)),
         ("tests/more.py has 401 lines, over 400", ("tests/more.py", "# more\n" * 401)),

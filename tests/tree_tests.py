@@ -69,7 +69,7 @@ def main():
     breaks = [(rule, *one) for rule, several in rules.items() for one in several]
     keeps = tree_breaks.KEEPS + face_breaks.KEEPS
     with tempfile.TemporaryDirectory() as home:
-        sources.ROOT, faces.INNER = pathlib.Path(home).resolve(), small_tree.INNER
+        sources.ROOT, faces.INNER, tree.LAW = pathlib.Path(home).resolve(), small_tree.INNER, small_tree.LAW
         subprocess.run(["git", "init", "-q"], cwd=home, check=True)
         for name, text in small_tree.FILES.items():
             write(name, text)
