@@ -11,7 +11,7 @@ import re
 import sys
 
 sys.path.insert(0, str(pathlib.Path(__file__).resolve().parent.parent / "tests"))
-from tree import KINDS
+from sources import KINDS
 
 QUOTED = r'"(?:\\.|[^"\\])*"'
 # a word of an .antt file, or of a contract; a field keeps its dot, as in `S .k`. Code has words of its own

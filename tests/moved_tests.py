@@ -11,7 +11,7 @@ import sys
 import tempfile
 
 ROOT = pathlib.Path(__file__).resolve().parent.parent
-SCRIPT = "bench/moved", "bench/paired.py", "bench/declared.py", "tests/tree.py"
+SCRIPT = "bench/moved", "bench/paired.py", "bench/declared.py", "tests/sources.py"
 
 SIZES, FACTS, PROOFS = "crates/page/specs/Sizes.antt", "crates/page/specs/Facts.antt", "crates/page/proofs/Sizes.antt"
 PROMISES, ROOM, LIB = "crates/call/specs/Promises.antt", "crates/call/specs/Room.antt", "crates/call/src/lib.rt"

@@ -9,6 +9,8 @@ import re
 
 # the tree that is looked at; the tests of the rules look at another
 ROOT = pathlib.Path(__file__).resolve().parent.parent
+# what is of Type 0 and no statement: a kind of thing
+KINDS = {("forms", "Points", "Point"), ("verdicts", "Walking", "Verdicts")}
 # what a line of a source has besides code: texts, and a comment at its end
 ASIDE = {".antt": re.compile(r'"(?:\\.|[^"\\])*"|--.*'), ".rt": re.compile(r"""b'(?:\\.|[^'\\])+'|"(?:\\.|[^"\\])*"|//.*""")}
 # a name of antt is any run of other characters than these

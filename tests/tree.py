@@ -27,13 +27,11 @@ sys.dont_write_bytecode = True  # nothing is left in the tree
 import faces
 import rattle
 import sources
-from sources import NAME, at, brings, code_of, document, named, names_in, oddities, signatures, specs_of, tables, text_of, uses
+from sources import KINDS, NAME, at, brings, code_of, document, named, names_in, oddities, signatures, specs_of, tables, text_of, uses
 
 LONGEST = 400
 # the left column of docs/DESIGN.md: document 01 as definitions, and what they rest on
 LAW = ("algebra", "forms", "verdicts", "page")
-# what is of Type 0 and no statement: a kind of thing
-KINDS = {("forms", "Points", "Point"), ("verdicts", "Walking", "Verdicts")}
 # the documents that cite by file and name
 CITING = ("PROMISES.md", "THEORY.md", "PAGE.md")
 # those that give a theorem for each statement
