@@ -1,10 +1,13 @@
 """The script `sheet` draws what the program lists, and says in words what a refusal means.
 
+    python3 tests/script.py [--without-devices]
+
 It is run as a person runs it: on the page's whole case, on every sheet of sheets/, whose pictures are compared with the second program's rasters, on
 texts that are refused by each number, on what cannot be read or written, and without arguments. A tree of its own, with a stand-in for `rt`, shows
 when the program is proved and built. And the picture that README.md begins with is the one that `sheet` draws, with the one that signs at the corners
-give beside it.
+give beside it. A check that cannot be tried, since the machine lacks a device, is a fault, unless --without-devices is said (tests/devices.py).
 """
+import argparse
 import importlib.machinery
 import importlib.util
 import os
@@ -15,19 +18,22 @@ import sys
 import tempfile
 
 sys.dont_write_bytecode = True  # nothing is left in the tree
+import devices
 import second
 import sheets
 from program import BUILT, ROOT
 from second_text import START, WHOLE, WHOLE_LISTING, written
 
 SCRIPT = ROOT / "sheet"
-FULL = pathlib.Path("/dev/full")
 MARKS = {1: "██", 2: "  ", 3: "· "}
 # the character of four cells, the upper two and the lower two
 QUARTERS = {"    ": " ", "█   ": "▘", " █  ": "▝", "██  ": "▀", "  █ ": "▖", "█ █ ": "▌", " ██ ": "▞", "███ ": "▛",
             "   █": "▗", "█  █": "▚", " █ █": "▐", "██ █": "▜", "  ██": "▄", "█ ██": "▙", " ███": "▟", "████": "█"}
 # what the usage says of status 2
 ENDS_WITH_2 = ("no FILE is named", "cannot be read", "there is no rt", "cannot be\nbuilt or started", "standard output cannot be written")
+# the ways to have it write, and what it says where it cannot
+WRITING = (["-"], ["--list", "-"], ["--help"])
+UNWRITTEN = "sheet: standard output cannot be written: "
 LEGEND = "[██] coloured: the curve may be here   [  ] above: f > 0 all over it   [· ] below: f < 0 all over it"
 PICTURE = f"""\
 ┌────┐
@@ -145,28 +151,33 @@ def command_checks():
         yield f"the legend of {name}", picture[2 ** k + 2:] == ["", LEGEND, ""]
 
 
+def full_checks(env, kind):
+    """The script where standard output, or standard error, is full."""
+    names = [f"standard output full, {' '.join(words)}{kind}" for words in WRITING]
+    names += [f"standard output full, which cannot be told{kind}", f"a refusal that cannot be told{kind}"]
+    if not devices.has_full():
+        yield from ((name, devices.NO_FULL) for name in names)
+        return
+    with devices.FULL.open("wb") as full:
+        for name, words in zip(names, WRITING):
+            yield name, run(*words, given=WHOLE, stdout=full, env=env) == (2, None, f"{UNWRITTEN}No space left on device\n")
+        yield names[-2], run("-", given=WHOLE, stdout=full, stderr=full, env=env)[0] == 2
+        yield names[-1], run("-", stderr=full, env=env) == (1, b"", "")
+
+
 def unwritten_checks():
     """The script where what it writes goes nowhere."""
-    said = "sheet: standard output cannot be written: "
     for unbuffered in ("", "1"):
-        env = {**os.environ, "PYTHONUNBUFFERED": unbuffered}
-        for words in (["-"], ["--list", "-"], ["--help"]):
-            kind = " ".join(words) + (", unbuffered" if unbuffered else "")
+        env, kind = {**os.environ, "PYTHONUNBUFFERED": unbuffered}, ", unbuffered" if unbuffered else ""
+        for words in WRITING:
+            name = " ".join(words) + kind
             closed = subprocess.run(["sh", "-c", 'exec "$@" >&-', "sh", SCRIPT, *words], input=WHOLE, stderr=subprocess.PIPE, env=env)
-            yield f"standard output closed, {kind}", (closed.returncode, closed.stderr.decode()) == (2, f"{said}it is closed\n")
+            yield f"standard output closed, {name}", (closed.returncode, closed.stderr.decode()) == (2, f"{UNWRITTEN}it is closed\n")
             reading, writing = os.pipe()
             os.close(reading)
-            yield f"nobody reads, {kind}", run(*words, given=WHOLE, stdout=writing, env=env) == (2, None, "")
+            yield f"nobody reads, {name}", run(*words, given=WHOLE, stdout=writing, env=env) == (2, None, "")
             os.close(writing)
-            if FULL.is_char_device():
-                with FULL.open("wb") as full:
-                    yield f"standard output full, {kind}", run(*words, given=WHOLE, stdout=full, env=env) == (2, None, f"{said}No space left on device\n")
-        if FULL.is_char_device():
-            with FULL.open("wb") as full:
-                yield "standard output full, which cannot be told", run("-", given=WHOLE, stdout=full, stderr=full, env=env)[0] == 2
-                yield "a refusal that cannot be told", run("-", stderr=full, env=env) == (1, b"", "")
-    if not FULL.is_char_device():
-        print(f"script: there is no {FULL} here, so no full output is tried")
+        yield from full_checks(env, kind)
 
 
 def build_checks():
@@ -272,18 +283,22 @@ def readme_checks():
 
 
 def main():
+    options = argparse.ArgumentParser(description="Tries the script `sheet` as a person runs it.")
+    devices.add_option(options)
+    chosen = options.parse_args()
     if not (BUILT / "listing").is_file():
         sys.exit("script: target/bin/listing is not there: `rt check` proves and builds it")
     if not os.access(SCRIPT, os.X_OK):
         sys.exit("script: ./sheet is no file that can be run")
     run("-", given=WHOLE)  # where a source is newer than the program, this proves and builds it, and says so
     checks = [*command_checks(), *unwritten_checks(), *build_checks(), *function_checks(), *readme_checks()]
-    for name, good in checks:
-        if not good:
-            print(f"not as it should be: {name}")
-    right = sum(good for _, good in checks)
-    print(f"script: {right} of {len(checks)} checks of ./sheet hold")
-    return 0 if right == len(checks) else 1
+    untried = devices.left_out(checks, chosen)
+    wrong = [(name, good) for name, good in checks if good is not True and (name, good) not in untried]
+    for name, good in wrong:
+        print(f"not as it should be: {name}" + (f": {good}" if good else ""))
+    print(f"script: {len(checks) - len(wrong) - len(untried)} of {len(checks)} checks of ./sheet hold")
+    devices.tell(checks, chosen)
+    return 1 if wrong else 0
 
 
 if __name__ == "__main__":

@@ -11,7 +11,8 @@ unended line, some length at the limit, some degree and depth or some mark at so
 
 Then target/bin/listing itself is run: on the page's whole case, on input that comes in pieces, that is empty, far too long, or cannot be read, at all
 or after some of it, with an output that cannot be written, on a text of each kind, and on those of sheets/, whose stored listings it must write. That
-these are as sheets/README.md says is for tests/sheets.py.
+these are as sheets/README.md says is for tests/sheets.py. A run that cannot be tried, since the machine lacks a device, is a fault, unless
+--without-devices is said (tests/devices.py).
 """
 import argparse
 import collections
@@ -21,9 +22,9 @@ import struct
 import subprocess
 import sys
 import time
-import tty
 
 sys.dont_write_bytecode = True  # nothing is left in the tree
+import devices
 import second_text
 import sheets
 from cases import EDGE, LEAST31, MOST31
@@ -35,7 +36,6 @@ REFUSALS = (1, 3, 4, 5, 6, 10, 11)
 WORDS = 8 + PLACES + 1
 SHOWN = 5
 STACK = 512 * 1024
-FULL = "/dev/full"
 
 
 # ---- the program that answers many texts
@@ -173,43 +173,14 @@ def fault_unless_told(run):
     return None if not run.stdout and one_line else f"writes {run.stdout!r:.200}, and to standard error {run.stderr[:200]!r}"
 
 
-def breaking(good):
-    """A descriptor that gives some good bytes, and then fails: the near end of a terminal whose far end was left. None where there is no such thing."""
-    try:
-        near, far = os.openpty()
-    except OSError:
-        return None
-    tty.setraw(far)  # the bytes come just as they are
-    os.write(far, good)
-    os.close(far)
-    return near
-
-
-def breaks(good):
-    """Whether such a descriptor does so here."""
-    near, got = breaking(good), b""
-    try:
-        while near is not None and len(got) <= len(good):
-            more = os.read(near, len(good) + 1)
-            if not more:
-                return False
-            got += more
-    except OSError:
-        return got == good
-    finally:
-        if near is not None:
-            os.close(near)
-    return False
-
-
 def unreadable(program):
     """Runs whose standard input is a folder, is open for writing alone, or fails after some good bytes."""
     inputs = [("a folder", lambda: os.open(ROOT, os.O_RDONLY)), ("open for writing alone", lambda: os.open(os.devnull, os.O_WRONLY))]
     for name, good in (("a part", WHOLE[:20]), ("all of the text", WHOLE)):
-        if breaks(good):
-            inputs.append((f"that fails after {name}", lambda good=good: breaking(good)))
+        if devices.breaks(good):
+            inputs.append((f"that fails after {name}", lambda good=good: devices.breaking(good)))
         else:
-            print(f"texts: no input that fails after {name} can be made here, so none is tried")
+            yield f"standard input that fails after {name}", devices.NO_TERMINAL
     for name, opened in inputs:
         stdin = opened()
         run = subprocess.run(command(program), stdin=stdin, capture_output=True, env=settings())
@@ -219,12 +190,11 @@ def unreadable(program):
 
 def unwritable(program):
     """Runs whose standard output is full, or open for reading alone: for a listing, and for a refusal."""
-    outputs = [("full", FULL, os.O_WRONLY), ("open for reading alone", os.devnull, os.O_RDONLY)]
-    if not pathlib.Path(FULL).is_char_device():
-        print(f"texts: there is no {FULL} here, so no full output is tried")
-        del outputs[0]
-    for name, path, way in outputs:
+    for name, path, way in (("full", devices.FULL, os.O_WRONLY), ("open for reading alone", os.devnull, os.O_RDONLY)):
         for kind, text in (("a listing", WHOLE), ("a refusal", b"")):
+            if path == devices.FULL and not devices.has_full():
+                yield f"standard output {name}, {kind}", devices.NO_FULL
+                continue
             stdout = os.open(path, way)
             run = subprocess.run(command(program), input=text, stdout=stdout, stderr=subprocess.PIPE, env=settings())
             os.close(stdout)
@@ -270,6 +240,7 @@ def main():
     options.add_argument("--only", type=int)
     options.add_argument("--program", type=pathlib.Path, default=BUILT / "compare_texts")
     options.add_argument("--listing", type=pathlib.Path, default=BUILT / "listing")
+    devices.add_option(options)
     chosen = options.parse_args()
     cases = all_cases(chosen.seed, chosen.cases)
     if chosen.only is not None:
@@ -285,11 +256,13 @@ def main():
         if not chosen.listing.is_file():
             sys.exit(f"texts: {chosen.listing} is not there: `rt check` proves and builds it")
         runs = list(listing_runs(chosen.listing, cases, expected))
-    failed = [(name, fault) for name, fault in runs if fault]
+    untried = devices.left_out(runs, chosen)
+    failed = [(name, fault) for name, fault in runs if fault and (name, fault) not in untried]
     for line in [f"never came up: {thing}" for thing in missing] + faults + [f"listing, {name}: {fault}" for name, fault in failed]:
         print(line)
     print(f"texts: seed {chosen.seed}, {len(cases) - len(wrong)} of {len(cases)} answers agree, "
-          f"{len(runs) - len(failed)} of {len(runs)} runs of listing are right, {len(sheets.names())} sheets with {len(faults)} faults")
+          f"{len(runs) - len(failed) - len(untried)} of {len(runs)} runs of listing are right, {len(sheets.names())} sheets with {len(faults)} faults")
+    devices.tell(runs, chosen)
     return 1 if wrong or other or missing or failed or faults else 0
 
 

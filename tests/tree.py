@@ -12,7 +12,7 @@
 - No file of a crate, of tests/ or of bench/ is over 400 lines, and no source brings in a name that it does not use.
 - Inner crates say that they are, and what other libraries show to the outside is held to its promises: tests/faces.py.
 - docs/BENCHMARKS.md counts the lines and the edits of each crate as bench/cost does.
-- No tracked file speaks of a place on somebody's machine.
+- No tracked file is missing, and none speaks of a place on somebody's machine.
 
 tests/tree_tests.py breaks each of these rules.
 """
@@ -269,6 +269,7 @@ def places():
     for name in filter(None, tracked):
         path = at(name)
         if not path.is_file():
+            yield f"{name} is tracked, and is no file of the tree"
             continue
         for number, line in enumerate(path.read_text(errors="replace").splitlines(), 1):
             if PLACES.search(line.replace("#!/usr/bin/env", "")):

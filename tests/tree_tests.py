@@ -24,9 +24,12 @@ def write(name, text):
 
 
 def edit(name, *change):
-    """Replaces a text of a file by another; or adds a text at its end, which makes the file where there is none. Or names one more inner crate."""
+    """Replaces a text of a file by another; or adds a text at its end, which makes the file where there is none. Or names one more inner crate, or a link."""
     if name == "INNER":
         faces.INNER += change
+        return
+    if name == "LINK":
+        sources.at(change[0]).symlink_to("nowhere")
         return
     path = sources.at(name)
     text = sources.text_of(path) if path.is_file() else ""
@@ -40,7 +43,7 @@ def edit(name, *change):
 
 def restore(whole):
     """The small tree as it was."""
-    for path in [path for path in sources.ROOT.rglob("*") if path.is_file() and ".git" not in path.relative_to(sources.ROOT).parts]:
+    for path in [path for path in sources.ROOT.rglob("*") if (path.is_file() or path.is_symlink()) and ".git" not in path.relative_to(sources.ROOT).parts]:
         if sources.named(path) not in whole:
             path.unlink()
     for path in sorted(sources.ROOT.glob("crates/*/**/"), reverse=True):
