@@ -81,17 +81,17 @@ static bool walk_sheet(const struct sheet *sheet, size_t entries, uint8_t *raste
 
 static bool raster_case(const struct sheet *sheet, size_t entries) {
     static uint8_t place[ENTRIES];
-    for (size_t i = 0; i < entries; i++) place[i] = (uint8_t)(5 + i % 251);
-    return walk_sheet(sheet, entries, place, NULL) && write_all(place, entries);
+    return read_all(place, entries) && walk_sheet(sheet, entries, place, NULL) && write_all(place, entries);
 }
 
 static bool listing_case(const struct sheet *sheet, size_t entries) {
     static uint32_t place[ENTRIES];
-    static uint8_t out[4 * ENTRIES];
-    for (size_t i = 0; i < entries; i++) place[i] = 4294967295u - (uint32_t)(i % 65536);
+    static uint8_t held[4 * ENTRIES];
+    if (!read_all(held, 4 * entries)) return false;
+    for (size_t i = 0; i < entries; i++) place[i] = word(held, i);
     if (!walk_sheet(sheet, entries, NULL, place)) return false;
-    for (size_t i = 0; i < entries; i++) put_number(out + 4 * i, place[i], 4);
-    return write_all(out, 4 * entries);
+    for (size_t i = 0; i < entries; i++) put_number(held + 4 * i, place[i], 4);
+    return write_all(held, 4 * entries);
 }
 
 static bool one_case(void) {

@@ -1,11 +1,12 @@
 """Cases for the comparison: the page's figures, the limits of the page, and seeded random cases.
 
 A case is the name of a call and what the call is given, in the order of tests/second.py's functions; for the place that is lent to raster and
-listing stands its number of entries, and `filled` says what they hold before the call. The random cases are biased so that sheets of
-every degree and depth are accepted, and every refusal is given, alone and where others would hold after it.
+listing stand its number of entries, a kind of content and a seed, from which `filled` makes what the entries hold before the call. The random
+cases are biased so that sheets of every degree and depth are accepted, and every refusal is given, alone and where others would hold after it.
 """
 import collections
 import random
+import struct
 
 import second
 
@@ -29,6 +30,9 @@ EDGE = 1_048_576
 # the most coefficients that a case can hand over, and the most entries of a place
 COUNT = 64
 ENTRIES = 4 ** 7 + 32
+# what a place holds before the call: all bytes 0, or 255; what a call may write, colours or records; any bytes; and what no call writes, each
+# entry another than its neighbours
+CONTENTS = ("all 0", "all 255", "written", "random", "unwritten")
 # how often each depth is walked: the deep ones are slow
 DEPTHS = (0,) * 3 + (1,) * 6 + (2,) * 10 + (3,) * 12 + (4,) * 10 + (5,) * 5 + (6,) * 3 + (7,) * 2
 
@@ -42,9 +46,43 @@ def arguments(call, g):
     return tuple(g.sheet) + {"check": (), "value": (g.U, g.V), "bounds": (g.mode, g.j, g.p, g.q), "raster": walk, "listing": walk}[call]
 
 
-def filled(call, entries):
-    """A place before the call, by the rule of crates/compare: it holds no colour and no record."""
-    return [5 + i % 251 for i in range(entries)] if call == "raster" else [2 ** 32 - 1 - i % 2 ** 16 for i in range(entries)]
+# ---- what a place holds
+
+# how often a list of this length is taken, so that it is as long as the longest place
+AGAIN = 100
+
+
+def colours(rng, entries):
+    return [1 + byte % 3 for byte in rng.randbytes(min(entries, 997))] * AGAIN
+
+
+def records(rng, entries):
+    """Records of cells at any level."""
+    cells = [(j, rng.randrange(2 ** j), rng.randrange(2 ** j)) for j in rng.choices(range(8), k=min(entries, 199))]
+    return [rng.randint(1, 3) + 4 * p + 512 * q + 65536 * j for j, p, q in cells] * AGAIN
+
+
+def any_bytes(rng, call, entries):
+    return rng.randbytes(entries) if call == "raster" else struct.unpack(f"<{entries}I", rng.randbytes(4 * entries))
+
+
+def filled(call, entries, content, seed):
+    """The entries of a place before the call."""
+    rng, most = random.Random(seed), 2 ** 8 - 1 if call == "raster" else 2 ** 32 - 1
+    held = {
+        "all 0": lambda: [0] * entries,
+        "all 255": lambda: [most] * entries,
+        "written": lambda: (colours if call == "raster" else records)(rng, entries),
+        "random": lambda: any_bytes(rng, call, entries),
+        "unwritten": lambda: [*range(5, 256)] * AGAIN if call == "raster" else range(most, most - entries, -1),
+    }[content]()
+    return [*held[:entries]]
+
+
+def with_places(rng, cases):
+    """The same cases: what its place holds stands beside the number of its entries."""
+    for call, args in cases:
+        yield call, (*args[:-1], (args[-1], rng.choice(CONTENTS), rng.getrandbits(32))) if call in WALKS else args
 
 
 # ---- random sheets that are accepted
@@ -290,4 +328,5 @@ def all_cases(seed, count):
     random cases, and a third as many walks."""
     rng = random.Random(seed)
     cases = [*figures(), *tallied_cells(), *at_limits(rng), *lent(rng), *hidden(rng)]
-    return cases + [*random_cases(rng, count), *random_pairs(rng, count // 6)]
+    cases += [*random_cases(rng, count), *random_pairs(rng, count // 6)]
+    return [*with_places(random.Random(f"{seed} places"), cases)]

@@ -4,9 +4,9 @@
     python3 tests/compare.py --case CASE                one case again, as a disagreement prints it
 
 The program target/bin/compare is run once, on all cases of tests/cases.py; crates/compare/src says how a case and an answer are written
-in bytes. Every answer is compared with that of tests/second.py, with every entry of a lent place as it is afterwards; and the tallies that
-the page prints are counted by walking through the program's verdicts. A run in which some refusal, verdict, degree or depth, or some kind of
-place at some depth in some mode, never came up fails, too.
+in bytes. A case says what a lent place holds beforehand. Every answer is compared with that of tests/second.py, with every entry of a lent
+place as it is afterwards; and the tallies that the page prints are counted by walking through the program's verdicts. A run in which some
+refusal, verdict, degree or depth, some kind of place at some depth in some mode, or some content of some kind of place, never came up fails, too.
 
 Then the second program is held to the page. Demand 3 is tried on the accepted cells: at points with fractional coordinates in the closed
 cell, at its corners, and, where nothing bends, at the point where the value must be 0. Of every walk, the visited cells are those to which
@@ -26,15 +26,16 @@ import sys
 sys.dont_write_bytecode = True  # nothing is left in the tree
 import second
 import second_walk
-from cases import CALLS, COUNT, EDGE, ENTRIES, REFUSALS, WALKS, all_cases, filled
+from cases import CALLS, CONTENTS, COUNT, EDGE, ENTRIES, REFUSALS, WALKS, all_cases, filled
 from program import BUILT, code, number, written_by
 
 PROGRAM = BUILT / "compare"
 VERDICTS = {1: "above", 2: "below", 3: "open"}
 # how many numbers each call answers, beside a place
 LENGTHS = {"check": 3, "value": 2, "bounds": 5, "raster": 3, "listing": 4}
-# how many bytes an entry of a lent place has
+# the bytes of an entry of a lent place: how many, and how they are packed
 WIDTHS = {"raster": 1, "listing": 4}
+PACKED = {"raster": "B", "listing": "I"}
 # the kinds of place: the short ones are refused by 7, and a place of no entry is the only short one at depth 0
 KINDS = {
     "no entry": 7,
@@ -49,14 +50,22 @@ SHOWN = 5
 # ---- the proved program
 
 def record(call, args):
-    """A case in bytes."""
+    """A case in bytes, without what its place holds."""
     d, coefficients, X, Y, s, k, *rest = args
     mode, j, p, q = rest if call == "bounds" else (rest[0] if call in WALKS else 0, 0, 0, 0)
     U, V = rest if call == "value" else (0, 0)
-    entries = rest[1] if call in WALKS else 0
+    entries = entries_of(call, args)
     words = (CALLS.index(call), d, len(coefficients), code(X, 32), code(Y, 32), s, k, mode, j, p, q, code(U, 64), code(V, 64), entries)
     padded = [code(A, 32) for A in coefficients] + [0] * (COUNT - len(coefficients))
     return struct.pack(f"<11I2QI{COUNT}I", *words, *padded)
+
+
+def given(cases):
+    """What the program is given: the cases, each walk with what its place holds."""
+    for call, args in cases:
+        yield record(call, args)
+        if call in WALKS:
+            yield struct.pack(f"<{entries_of(call, args)}{PACKED[call]}", *filled(call, *args[-1]))
 
 
 def answer(call, words):
@@ -76,8 +85,8 @@ def answer(call, words):
 
 
 def entries_of(call, args):
-    """How many entries follow an answer: those of the place."""
-    return args[-1] if call in WALKS else 0
+    """How many entries follow a case and its answer: those of the place."""
+    return args[-1][0] if call in WALKS else 0
 
 
 def answers_in(output, cases):
@@ -88,14 +97,14 @@ def answers_in(output, cases):
         at += 40
         if call in WALKS:
             entries = entries_of(call, args)
-            words += ([*struct.unpack_from(f"<{entries}{'B' if call == 'raster' else 'I'}", output, at)],)
+            words += ([*struct.unpack_from(f"<{entries}{PACKED[call]}", output, at)],)
             at += WIDTHS[call] * entries
         yield words
 
 
 def run(program, cases):
     """The program's answers."""
-    output = written_by(program, b"".join(record(*case) for case in cases))
+    output = written_by(program, b"".join(given(cases)))
     length = sum(40 + WIDTHS.get(call, 0) * entries_of(call, args) for call, args in cases)
     if len(output) != length:
         sys.exit(f"compare: the answers to {len(cases)} cases have {length} bytes with their places, and {len(output)} bytes came")
@@ -105,8 +114,8 @@ def run(program, cases):
 # ---- the second program
 
 def second_answer(call, args):
-    """What the second program answers, its lent place filled by the same rule."""
-    return getattr(second, call)(*args[:-1], filled(call, args[-1])) if call in WALKS else getattr(second, call)(*args)
+    """What the second program answers, where its lent place holds the same."""
+    return getattr(second, call)(*args[:-1], filled(call, *args[-1])) if call in WALKS else getattr(second, call)(*args)
 
 
 def walk_of(args):
@@ -144,14 +153,14 @@ def brief(answered, other):
 
 def disagreements(cases, answers, expected):
     """What is to be said of each case that the two programs answer otherwise."""
-    return [f"disagreement on --case '{shown(*case)}'\n"
+    return [f"disagreement on --case \"{shown(*case)}\"\n"
             f"    the proved program: {brief(got, wanted)}\n    the second program: {brief(wanted, got)}"
             for case, got, wanted in zip(cases, answers, expected) if got != wanted]
 
 
 def faults_of_walks(faults):
     """The same for the walks of the second program that are not as the page says."""
-    return [f"the second program's walk is wrong on --case '{shown(*case)}': {fault}" for case, fault in faults]
+    return [f"the second program's walk is wrong on --case \"{shown(*case)}\": {fault}" for case, fault in faults]
 
 
 def met(call, args, answered):
@@ -165,7 +174,7 @@ def met(call, args, answered):
             yield call, "weight at the limit" if short == 0 else "weight just below the limit"
     yield (call, "refused by", refusal) if refusal else (call, "accepted")
     if call in WALKS:
-        yield from met_of_place(call, k, rest[0], args[-1], refusal)
+        yield from met_of_place(call, k, rest[0], *args[-1][:2], refusal)
     if refusal:
         return
     yield call, "degree and depth", d, k
@@ -197,15 +206,29 @@ def hiding(args, records):
             and any(second.bounds(*sheet, k, mode, *part)[1] == "open" for part in second_walk.parts(*at))}
 
 
-def met_of_place(call, k, mode, entries, refusal):
-    """What a place shows: how long it is for its depth, and that the refusals before 7 are given though it is too short."""
+def met_of_place(call, k, mode, entries, content, refusal):
+    """What a place shows: how long it is for its depth, what it holds, and that the refusals before 7 are given though it is too short."""
     need = 4 ** min(k, 8)
+    if refusal and entries:
+        yield call, "refused by", refusal, "a place that holds", content
     if refusal in (0, 7):
         kind = ("no entry" if entries == 0 else "one entry missing" if entries == need - 1 else "several entries missing" if entries < need
                 else "just long enough" if entries == need else "longer")
         yield call, "depth", k, "mode", mode, "a place", kind, refusal
+        yield call, "a place", kind, "that holds", content
+        if refusal == 0:
+            yield call, "depth", k, "a place that holds", content
     elif entries < need:
         yield call, "a place too short, refused by", refusal
+
+
+def wanted_of_contents():
+    """Every content of every kind of place that has an entry, at every depth, and beside every refusal."""
+    for call in WALKS:
+        for content in CONTENTS:
+            yield from ((call, "a place", kind, "that holds", content) for kind in KINDS if kind != "no entry")
+            yield from ((call, "depth", k, "a place that holds", content) for k in range(8))
+            yield from ((call, "refused by", refusal, "a place that holds", content) for refusal in REFUSALS[call])
 
 
 def wanted_of_walks():
@@ -224,6 +247,7 @@ def wanted_of_walks():
 
 
 def wanted():
+    yield from wanted_of_contents()
     yield from wanted_of_walks()
     for call in CALLS:
         yield call, "accepted"
@@ -344,7 +368,7 @@ def main():
     rng = random.Random(chosen.seed)
     broken = [(args, fault) for args, answered in cells if (fault := demand_3(rng, args, answered))]
     for args, fault in broken[:SHOWN]:
-        print(f"demand 3 does not hold on --case '{shown('bounds', args)}': {fault}")
+        print(f"demand 3 does not hold on --case \"{shown('bounds', args)}\": {fault}")
     paired = pairs(cases, answers)
     unlike = [(walk, fault) for walk, fault in paired.items() if fault]
     for walk, fault in unlike[:SHOWN]:

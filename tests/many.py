@@ -100,7 +100,8 @@ def run_part(seed, part):
             compared_texts(found, [random_text(rng) for _ in range(part.count)])
         else:
             maker = walk_cases if part.kind == "walks" else single_cases
-            compared(found, [case for _ in range(part.count) for case in maker(rng)])
+            made = (case for _ in range(part.count) for case in maker(rng))
+            compared(found, [*cases.with_places(random.Random(f"{seed} {name_of(part)} places"), made)])
     except SystemExit as end:  # a program that does not end well, or does not answer all
         found.faults.append(str(end))
     return found

@@ -154,7 +154,7 @@ BREAKS = {
         (f"docs/BENCHMARKS.md has other rows than bench/cost: {UPDATE}", (COSTS, "| all |", "| `more` | 0 | 0 | 0 | 0 | 0 | 0 | 0 |\n| all |")),
     ],
     tree.places: [
-        ("docs/MORE.md is tracked, and is no file of the tree", ("LINK", "docs/MORE.md")),
+        ("sheets is tracked, and is no file of the tree", ("LINK", "sheets")),
         ("README.md:2 names a place on a machine", ("README.md", "It was made in /" + "home/somebody.\n")),
         ("tests/more.py:1 names a place on a machine", ("tests/more.py", 'ROOT = "/' + 'tmp"\n')),
     ],

@@ -1,22 +1,13 @@
 // The numbers of a case, from its words. A negative number is coded as in `words`.
+use words::number;
 ghost use Prim.Native.Nat.{_<_};
-
-// A byte's number.
-fn wide(byte: u8) -> u32
-    ensures { λ r. ⌜ r < 256 ⌝ }
-{
-    byte as u32
-}
 
 // The word at place i of a case.
 pub fn word(case: &[u8; 320], i: usize) -> u32
     requires { ⌜ i < 80 ⌝ }
 {
     let at = 4 * i;
-    wide(case[at])
-        + 256 * wide(case[at + 1])
-        + 65536 * wide(case[at + 2])
-        + 16777216 * wide(case[at + 3])
+    number(case[at], case[at + 1], case[at + 2], case[at + 3])
 }
 
 // The number in two words, the lower one at place i.

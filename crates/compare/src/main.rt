@@ -1,8 +1,8 @@
 // Answers many cases of the public calls, so that tests/compare.py can hold the answers to those of its second program.
 //
 // Standard input is a row of cases of 320 bytes (`case` says what they mean), and standard output a row of answers of 40 bytes in the same
-// order (`answer`). After the answer of a raster or a listing comes the whole place that was lent to it, as the call left it (`place`). The
-// program ends where the input does.
+// order (`answer`). After the case of a raster or a listing comes the whole place that is lent to it, as it is before the call, and after the
+// answer the whole place again, as the call left it (`place`). The program ends where the input does.
 mod answer;
 mod call;
 mod case;
@@ -18,7 +18,7 @@ fn plain(case: &[u8; 320]) -> bool {
     io::write_all(STDOUT_FILENO, &out)
 }
 
-// Reads one case and writes its answer; false where no whole case is left, or the answer can't be written.
+// Reads one case and writes its answer; false where no whole case is left, with its place, or the answer can't be written.
 fn one_case() -> bool {
     let mut case = [0u8; 320];
     let got = io::read_full(STDIN_FILENO, &mut case);

@@ -1,13 +1,15 @@
-// The calls that are lent a place, and the place afterwards, which follows the answer: one byte for each entry of a raster's, four for
-// each of a listing's, the lowest first. Before the call an entry holds what no call writes and its neighbours do not hold, so that one
-// that was written, left out or moved shows.
+// The calls that are lent a place. The entries that it holds before the call follow the case in the input, and those that it holds afterwards
+// follow the answer: all of them, one byte for each entry of a raster's, four for each of a listing's, the lowest first. So every entry can be
+// chosen, and every entry is seen, whether it was written or left.
 use crate::answer::bytes;
 use crate::answer::of_listing;
 use crate::answer::of_raster;
 use crate::case::*;
 use crate::coding::signed;
 use crate::coding::word;
+use libc::STDIN_FILENO;
 use libc::STDOUT_FILENO;
+use words::number;
 ghost use mathlib.Core.Path.{_≡_};
 ghost use Prim.Native.Nat.{_+_, _*_, _≤_};
 ghost use lib.ListN.{length};
@@ -32,20 +34,20 @@ fn byte_space() -> [u8; 65664]
     [0; 65664]
 }
 
-// Byte i is 5 + i mod 251: no colour.
-fn fill_bytes(place: &mut [u8]) {
-    let mut i = 0;
-    while i < place.len() {
-        place[i] = (5 + i % 251) as u8;
-        i += 1;
-    }
+// The entry in four bytes.
+fn entry_at(given: &[u8], at: usize) -> u32
+    requires { ⌜ at + 4 ≤ length (now given) ⌝ }
+{
+    number(given[at], given[at + 1], given[at + 2], given[at + 3])
 }
 
-// Entry i is 2^32 - 1 - i mod 2^16: no record.
-fn fill_words(place: &mut [u32]) {
+// The entries from their bytes.
+fn take_entries(place: &mut [u32], given: &[u8])
+    requires { ⌜ 4 * length (now place) ≤ length (now given) ⌝ }
+{
     let mut i = 0;
     while i < place.len() {
-        place[i] = (4294967295 - i % 65536) as u32;
+        place[i] = entry_at(given, 4 * i);
         i += 1;
     }
 }
@@ -72,6 +74,12 @@ fn put_entries(out: &mut [u8], place: &[u32])
     }
 }
 
+// Reads so many bytes as there are; false where fewer are left.
+fn read(given: &mut [u8]) -> bool {
+    let n = given.len();
+    io::read_full(STDIN_FILENO, given) == n
+}
+
 // The five words, then the place.
 fn write(words: [u64; 5], place: &[u8]) -> bool {
     let out = bytes(words);
@@ -80,15 +88,6 @@ fn write(words: [u64; 5], place: &[u8]) -> bool {
     } else {
         false
     }
-}
-
-fn write_words(words: [u64; 5], place: &[u32]) -> bool
-    requires { ⌜ length (now place) ≤ 16416 ⌝ }
-{
-    let mut out = byte_space();
-    put_entries(&mut out, place);
-    let n = 4 * place.len();
-    write(words, &out[..n])
 }
 
 fn rastered(case: &[u8; 320], coefficients: &[i32], place: &mut [u8]) -> [u64; 5] {
@@ -121,25 +120,41 @@ fn listed(case: &[u8; 320], coefficients: &[i32], place: &mut [u32]) -> [u64; 5]
     ))
 }
 
-// Lends a raster a place of the asked length; false where the answer can't be written.
+// Lends a raster a place of the asked length; false where the input ends within it, or the answer can't be written.
 pub fn raster(case: &[u8; 320]) -> bool {
     let all = coefficients_of(case);
     let count = count_of(case);
     let entries = entries_of(case);
     let mut space = raster_space();
     let place = &mut space[..entries];
-    fill_bytes(place);
+    if !read(place) {
+        return false;
+    }
     let words = rastered(case, &all[..count], place);
     write(words, place)
 }
 
-pub fn listing(case: &[u8; 320]) -> bool {
+// Lends a listing the entries that the bytes hold, and leaves in the bytes what becomes of them.
+fn relisted(case: &[u8; 320], place: &mut [u32], held: &mut [u8]) -> [u64; 5]
+    requires { ⌜ 4 * length (now place) ≤ length (now held) ⌝ }
+{
     let all = coefficients_of(case);
     let count = count_of(case);
-    let entries = entries_of(case);
-    let mut space = listing_space();
-    let place = &mut space[..entries];
-    fill_words(place);
+    take_entries(place, held);
     let words = listed(case, &all[..count], place);
-    write_words(words, place)
+    put_entries(held, place);
+    words
+}
+
+pub fn listing(case: &[u8; 320]) -> bool {
+    let entries = entries_of(case);
+    let n = 4 * entries;
+    let mut out = byte_space();
+    let held = &mut out[..n];
+    if !read(held) {
+        return false;
+    }
+    let mut space = listing_space();
+    let words = relisted(case, &mut space[..entries], held);
+    write(words, held)
 }

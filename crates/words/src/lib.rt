@@ -1,8 +1,19 @@
-// Whole numbers as words of eight bytes, for the programs that the comparisons run. A negative number is coded by its top bit and the number of
+// Whole numbers as words of bytes, for the programs that the comparisons run. A negative number is coded by its top bit and the number of
 // steps that it lies below -1, so that every number of its type has one code and every code is a number.
 // An inner crate: what its functions require, every caller proves.
-ghost use Prim.Native.Nat.{_+_, _≤_};
+ghost use Prim.Native.Nat.{_+_, _<_, _≤_};
 ghost use lib.ListN.{length};
+
+fn wide(byte: u8) -> u32
+    ensures { λ r. ⌜ r < 256 ⌝ }
+{
+    byte as u32
+}
+
+// The number that four bytes hold, the lowest first.
+pub fn number(a: u8, b: u8, c: u8, d: u8) -> u32 {
+    wide(a) + 256 * wide(b) + 65536 * wide(c) + 16777216 * wide(d)
+}
 
 pub fn code(number: i64) -> u64 {
     if number < 0 {

@@ -23,8 +23,11 @@ array-borrow-prefix-space c = search needs
 slice-aggregate-place : tie.Need-slice-aggregate-place
 slice-aggregate-place c = simp length-take (omega arith)
 
-fill-bytes-requires : tie.Need-fill-bytes-requires
-fill-bytes-requires c κs = search needs
+read-requires : tie.Need-read-requires
+read-requires c κs = search needs
+
+returns : tie.Need-returns
+returns c = search needs
 
 array-share-prefix-all : tie.Need-array-share-prefix-all
 array-share-prefix-all c = search needs
@@ -38,8 +41,8 @@ rastered-requires c κs = search needs
 write-requires : tie.Need-write-requires
 write-requires c κs = search needs
 
-returns : tie.Need-returns
-returns c = search needs
+returns-2 : tie.Need-returns-2
+returns-2 c = search needs
 
 pub raster-spec : {M : Type 1} → statement M
 raster-spec =
@@ -51,9 +54,10 @@ raster-spec =
     raster-space-requires
     array-borrow-prefix-space
     slice-aggregate-place
-    fill-bytes-requires
+    read-requires
+    returns
     array-share-prefix-all
     slice-aggregate-rastered
     rastered-requires
     write-requires
-    returns)
+    returns-2)
