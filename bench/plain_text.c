@@ -1,11 +1,11 @@
 /* Reading sheet texts, and listing them as text, in plain C, for a timing beside the proved program.
 
-   It reads and answers texts as crates/texts does, so that both can be fed one file and their answers compared byte for byte. As there, each
-   text is read twice: once for its listing, and once for the words of its sheet. Here a text is read in one pass, which stops at the first
+   It reads and answers texts as crates/compare_texts does, so that both can be fed one file and their answers compared byte for byte. As there,
+   each text is read twice: once for its listing, and once for the words of its sheet. Here a text is read in one pass, which stops at the first
    fault. The walk is that of bench/plain.h. Nothing here is proved. */
 #include "plain.h"
 
-enum { LONGEST = 8192, HELD = 262144, RECORDS = 16384, ROOM = 16 * RECORDS + 28, PLACES = 45, WORDS = 8 + PLACES + 1 };
+enum { LONGEST = 8192, HELD = 262144, RECORDS = 16384, ROOM = 16 * RECORDS + 28, ENTRIES = ROOM + 36, PLACES = 45, WORDS = 8 + PLACES + 1 };
 
 /* ---- fields and lines */
 
@@ -154,9 +154,10 @@ static uint8_t *put_record(uint8_t *out, uint32_t record) {
     return out;
 }
 
-/* What the listing program writes for a text: how long it is. */
-static size_t listing_text(const uint8_t *text, size_t n, uint8_t *place) {
+/* What the listing program writes for a text, at the start of a place: how long it is. A place without the room stays as it was. */
+static size_t listing_text(const uint8_t *text, size_t n, uint8_t *place, size_t entries) {
     static uint32_t records[RECORDS];
+    if (entries < ROOM) return 0;
     struct reading reading = read_text(text, n);
     if (reading.number != 0) return (size_t)(put_line(place, "refused", reading.number, reading.line) - place);
     struct walk walk = walk_of(&reading.sheet);
@@ -181,19 +182,29 @@ static bool write_words(const struct reading *reading, size_t length) {
     return write_all(out, sizeof out);
 }
 
-static bool one_text(void) {
-    static uint8_t text[HELD], place[ROOM];
-    uint8_t head[4];
-    if (!read_all(head, 4)) return false;
-    size_t n = least(word(head, 0), HELD);
-    if (!read_all(text, n)) return false;
-    size_t length = listing_text(text, n, place);
+/* Makes the place hold what an item says: one byte everywhere, and others from some entry on, which are read. */
+static bool hold(const uint8_t *head, uint8_t *place, size_t entries) {
+    size_t end = least(word(head, 4), entries), start = least(word(head, 3), end);
+    memset(place, head[8], entries);
+    return read_all(place + start, end - start);
+}
+
+static bool one_item(void) {
+    static uint8_t text[HELD], place[ENTRIES];
+    static const uint8_t made[ROOM];
+    uint8_t head[28];
+    if (!read_all(head, sizeof head)) return false;
+    if (word(head, 0) == UINT32_MAX) return write_all(made, ROOM);
+    size_t n = least(word(head, 0), HELD), entries = least(word(head, 1), ENTRIES);
+    if (!read_all(text, n) || !hold(head, place, entries)) return false;
+    size_t length = listing_text(text, n, place, entries);
     struct reading reading = read_text(text, n);
-    return write_words(&reading, length) && write_all(place, length);
+    size_t first = least(word(head, 5), entries), last = least(word(head, 6), entries);
+    return write_words(&reading, length) && write_all(place, first) && write_all(place + entries - last, last);
 }
 
 int main(void) {
-    while (one_text()) {
+    while (one_item()) {
     }
     return 0;
 }

@@ -4,14 +4,15 @@
     python3 tests/many.py [--seed S] [--cases N] --part PART    one part of that run again, as a disagreement names it
 
 The calls are check, value, bounds, raster, listing, read, and answer, which is the listing program's text; a text is a case of read and of answer.
-The cases are those of tests/many_cases.py, made in parts: which cases a part has follows from the seed and its name alone. For each part
-target/bin/compare or target/bin/compare_texts is run once, and all that it answers is compared as in tests/compare.py and tests/texts.py: every number,
-every entry of every lent place, every byte of a listing. Every walk of the second program is held to what the page says of walks.
+The cases are those of tests/many_cases.py, made in parts: which cases a part has follows from the seed and its name alone, and so does what their
+places hold. For each part target/bin/compare or target/bin/compare_texts is run once, and all that it answers is compared as in tests/compare.py and
+tests/texts.py: every number, every entry of every place that is lent to raster and listing, every byte of a listing, and some hundred entries of its
+place after it and at the end. Every walk of the second program is held to what the page says of walks.
 
 At the end stand, for each call, the accepted cases by degree and by depth, and the cases that agreed by their number, 0 for an accepted one, with
-how many of a call's cases are distinct. Anything that disagrees makes the run fail, as does a number that the call can't be refused by; and where
-there are as many cases as by default, or more, a number, degree or depth that never came up. So many take half an hour of one processor, half of
-that on two: the gate has 300 of each call.
+how many of a call's cases are distinct, whatever their places hold; the number of a case of answer is that of its text. Anything that disagrees makes
+the run fail, as does a number that the call can't be refused by; and where there are as many cases as by default, or more, a number, degree or depth,
+or a kind of place or content, that never came up. So many take half an hour of one processor, half of that on two: the gate has 300 of each call.
 """
 import argparse
 import collections
@@ -26,6 +27,7 @@ import time
 sys.dont_write_bytecode = True  # nothing is left in the tree
 import cases
 import compare
+import text_places
 import texts
 from many_cases import random_text, single_cases, walk_cases
 from program import BUILT
@@ -38,7 +40,8 @@ KINDS = {"walks": (cases.WALKS, 500), "texts": (("read", "answer"), 1000), "shee
 SHOWN = 5
 
 Part = collections.namedtuple("Part", "kind number count")
-# how often a call's answers agreed, by number, and of accepted cases by degree and depth; a call's distinct cases; and what is wrong
+# how often a call's answers agreed, by number and by what its place was, and of accepted cases by degree and depth; a call's distinct cases; and
+# what is wrong
 Found = collections.namedtuple("Found", "agreed distinct faults")
 
 
@@ -57,12 +60,14 @@ def nothing_yet():
     return Found(collections.Counter(), collections.defaultdict(set), [])
 
 
-def noted(found, call, given, number, d, k, agrees):
+def noted(found, call, given, number, d, k, place, agrees):
     """Counts one case, and keeps a few bytes of it that others share only by a rare chance."""
     found.distinct[call].add(hashlib.blake2b(given, digest_size=10).digest())
-    if agrees:
-        found.agreed[call, "number", number] += 1
-    if agrees and number == 0:
+    if not agrees:
+        return
+    found.agreed[call, "number", number] += 1
+    found.agreed.update((call, "place", thing) for thing in place)
+    if number == 0:
         found.agreed[call, "degree", d] += 1
         found.agreed[call, "depth", k] += 1
 
@@ -72,36 +77,33 @@ def compared(found, made):
     expected, faults, _ = compare.second_answers(made)
     answers = compare.run(compare.PROGRAM, made)
     for (call, args), got, wanted in zip(made, answers, expected):
-        noted(found, call, compare.record(call, args), wanted[0], args[0], args[5], got == wanted)
+        noted(found, call, compare.record(call, args), wanted[0], args[0], args[5], args[-1][1:2] if call in cases.WALKS else (), got == wanted)
     found.faults.extend(compare.faults_of_walks(faults) + compare.disagreements(made, answers, expected))
 
 
-def told_by(written):
-    """The number that a text of the listing program tells."""
-    return int(written.split(b"\t")[1]) if written.startswith(b"refused\t") else 0
-
-
-def compared_texts(found, made):
+def compared_texts(found, made, rng):
     """The calls that are given a text."""
-    expected = [texts.second_answer(case.text) for case in made]
-    answers = texts.run(BUILT / "compare_texts", made)
-    for case, (got, got_text), (wanted, wanted_text) in zip(made, answers, expected):
+    told = [texts.second_told(case.text) for case in made]
+    items = [texts.Item(case, both, text_places.any_place(rng, len(both[1]))) for case, both in zip(made, told)]
+    answers = texts.run(BUILT / "compare_texts", items)
+    for item, (got, *left) in zip(items, answers):
+        wanted, *expected = texts.second_answer(item)
         number, _, d, _, _, _, k, *_ = wanted
-        noted(found, "read", case.text, number, d, k, got == wanted)
-        noted(found, "answer", case.text, told_by(wanted_text), d, k, got_text == wanted_text)
-    found.faults.extend(texts.misjudged(made, expected) + texts.disagreements(made, answers, expected))
+        noted(found, "read", item.case.text, number, d, k, (), got == wanted)
+        noted(found, "answer", item.case.text, number, d, k, (item.place.kind, item.place.content), left == expected)
+    found.faults.extend(texts.misjudged(made, told) + [*texts.disagreements(items, answers)])
 
 
 def run_part(seed, part):
     """What is found of one part: its cases are made, answered by both programs and compared."""
     rng, found = random.Random(f"{seed} {name_of(part)}"), nothing_yet()
+    places = random.Random(f"{seed} {name_of(part)} places")
     try:
         if part.kind == "texts":
-            compared_texts(found, [random_text(rng) for _ in range(part.count)])
+            compared_texts(found, [random_text(rng) for _ in range(part.count)], places)
         else:
             maker = walk_cases if part.kind == "walks" else single_cases
-            made = (case for _ in range(part.count) for case in maker(rng))
-            compared(found, [*cases.with_places(random.Random(f"{seed} {name_of(part)} places"), made)])
+            compared(found, [*cases.with_places(places, (case for _ in range(part.count) for case in maker(rng)))])
     except SystemExit as end:  # a program that does not end well, or does not answer all
         found.faults.append(str(end))
     return found
@@ -126,10 +128,12 @@ def gathered(seed, parts, jobs):
 
 
 def wanted(call):
-    """What every call must show: each number that it can answer, each degree and each depth."""
+    """What every call must show: each number that it can answer, each degree and each depth, and of its places each kind and each content."""
     yield from (("number", number) for number in (0, *REFUSALS[call]))
     yield from (("degree", d) for d in range(9))
     yield from (("depth", k) for k in range(8))
+    contents = {"raster": cases.CONTENTS, "listing": cases.CONTENTS, "answer": (*text_places.LENGTHS, *text_places.CONTENTS)}
+    yield from (("place", thing) for thing in contents.get(call, ()))
 
 
 def unwanted(agreed, count):
@@ -164,6 +168,9 @@ def tables(found, calls):
     columns = [[number for number in column if number != "-"] for column in list(zip(*rows))[1:]]
     rows.append(("total", *(sum(column) if column else "-" for column in columns)))
     shown("agreed, by number: 0 is accepted, and by - a call can't be refused", [*NUMBERS, "total", "distinct"], rows)
+    short = sum(agreed["answer", "place", kind] for kind in text_places.SHORT)
+    if "answer" in calls:
+        print(f"answer: {short} of the places have not the room, and stay as they were")
 
 
 def main():

@@ -1,7 +1,8 @@
 """Random cases and texts for tests/many.py: every input of every call at random, nothing by turns.
 
 They are made as in tests/cases.py and tests/text_cases.py. Beside those stand cases in which any input may be any number of its type, and texts
-with a random one of all the faults there. Every depth is walked often; the deepest ones, whose walks are slow, are rarer.
+with a random one of all the faults there. Every depth is walked often; the deepest ones, whose walks are slow, are rarer. What lent places hold is
+drawn by itself, in tests/many.py.
 """
 from cases import (
     EDGE, ENTRIES, LEAST31, LEAST63, MOST31, MOST32, MOST63, SINGLE, WALKS,

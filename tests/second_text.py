@@ -16,6 +16,8 @@ from second_walk import cell_of
 
 LONGEST = 8_192
 PLACES = 45
+# the room that the call `answer` asks for, which is no number of the page: 16 bytes for each of 16,384 records, and 28 for the total
+ROOM = 262_172
 LEAST, MOST = -2 ** 31, 2 ** 31 - 1
 # what a number may be written as: ASCII digits, no plus, no leading zero, no -0
 NUMBER = re.compile(rb"0|-?[1-9][0-9]*")
@@ -109,6 +111,11 @@ def listing_text(text):
     _, length, visited, coloured, place = second.listing(d, used, X, Y, s, k, mode, [0] * 4 ** k)
     records = [line_of(*cell_of(record), MARKS[record % 4]) for record in place[:length]]
     return b"".join(records) + line_of(b"total", visited, coloured)
+
+
+def left(told, place):
+    """What `answer` answers and leaves behind in a lent place, where the listing program writes so much: a place without the room stays as it was."""
+    return (len(told), told + place[len(told):]) if len(place) >= ROOM else (0, place)
 
 
 # ---- the page's own words

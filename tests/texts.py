@@ -3,11 +3,13 @@
     python3 tests/texts.py [--seed S] [--cases N]     N random texts, beside those of known make
     python3 tests/texts.py --only NUMBER              one text of that run again, by its number
 
-The program target/bin/compare_texts is run once, on all texts of tests/text_cases.py. It is given for each text its length in 4 bytes and the text. It
-answers for each 53 words of 8 bytes, all little-endian: the number, the line, d, X, Y, s, k, the mode and the 45 coefficients; then in one more word
-the length of what the listing program writes for the text, and just that. Every answer is compared with that of tests/second_text.py; and where
-the number and the line are known from how a text was made, the second program is held to them. A run in which some refusal, some bad, missing or
-unended line, some length at the limit, some degree and depth or some mark at some level never came up fails, too.
+The program target/bin/compare_texts is run once, on all texts of tests/text_cases.py, each with a place for the call `answer`, of tests/text_places.py:
+first each text with a place that has the room, of which what is written is shown, some hundred entries after it, and the last ones; then texts of every
+answer, and the one with the longest listing, with places of every length and content, of which all is shown. It answers for each 53 words of 8 bytes,
+all little-endian: the number, the line, d, X, Y, s, k, the mode and the 45 coefficients; then in one more word what `answer` answers, and the entries
+that are shown. Every answer is compared with that of tests/second_text.py; and where the number and the line are known from how a text was made, the
+second program is held to them. A run in which some refusal, some bad, missing or unended line, some length at the limit, some degree and depth, some
+mark at some level, or some content of some kind of place never came up fails, too.
 
 Then target/bin/listing itself is run: on the page's whole case, on input that comes in pieces, that is empty, far too long, or cannot be read, at all
 or after some of it, with an output that cannot be written, on a text of each kind, and on those of sheets/, whose stored listings it must write. That
@@ -18,6 +20,7 @@ import argparse
 import collections
 import os
 import pathlib
+import random
 import struct
 import subprocess
 import sys
@@ -27,46 +30,73 @@ sys.dont_write_bytecode = True  # nothing is left in the tree
 import devices
 import second_text
 import sheets
+import text_places
 from cases import EDGE, LEAST31, MOST31
 from program import BUILT, ROOT, command, ended, number, settings, written_by
 from text_cases import CEILING, all_cases
-from second_text import LONGEST, PLACES, WHOLE, WHOLE_LISTING
+from second_text import LONGEST, PLACES, ROOM, WHOLE, WHOLE_LISTING
 
 REFUSALS = (1, 3, 4, 5, 6, 10, 11)
 WORDS = 8 + PLACES + 1
 SHOWN = 5
 STACK = 512 * 1024
+# the lines of the longest listing: that of a sheet of depth 7 each cell of which is coloured
+LINES = 4 ** 7 + 1
+
+# a text; what the second program reads in it, and what the listing program writes for it; and the place that is lent
+Item = collections.namedtuple("Item", "case told place")
 
 
 # ---- the program that answers many texts
 
-def given(texts):
-    return b"".join(struct.pack("<I", len(text)) + text for text in texts)
+def given(items):
+    """What the program is given: for each item a text and a place."""
+    return b"".join(text_places.handed(text, place) for text, place in items)
 
 
-def answers_in(output, count):
-    """The answers that were written: each as the second program gives it, with the bytes of the listing program."""
+def answers_in(output, places):
+    """The answers that were written: each as the second program gives it, with what `answer` answers and what is shown of the place."""
     at = 0
-    for turn in range(count):
-        words = struct.unpack_from(f"<{WORDS}Q", output, at) if at + 8 * WORDS <= len(output) else None
-        if words is None or at + 8 * WORDS + words[-1] > len(output):
-            sys.exit(f"texts: {len(output)} bytes came, and they end within the answer to text {turn} of {count}")
-        at += 8 * WORDS
-        refusal, line, d, X, Y, s, k, mode, *coefficients, length = words
+    for turn, place in enumerate(places):
+        end = at + 8 * WORDS + place.first + place.last
+        if end > len(output):
+            sys.exit(f"texts: {len(output)} bytes came, and they end within the answer to text {turn} of {len(places)}")
+        refusal, line, d, X, Y, s, k, mode, *coefficients, length = struct.unpack_from(f"<{WORDS}Q", output, at)
         sheet = d, number(X, 64), number(Y, 64), s, k, mode, tuple(number(A, 64) for A in coefficients)
-        yield (refusal, line, *sheet), output[at:at + length]
-        at += length
+        yield (refusal, line, *sheet), length, output[at + 8 * WORDS:end]
+        at = end
     if at != len(output):
-        sys.exit(f"texts: the answers to {count} texts have {at} bytes, and {len(output)} bytes came")
+        sys.exit(f"texts: the answers to {len(places)} texts have {at} bytes, and {len(output)} bytes came")
 
 
-def run(program, cases):
+def run(program, items):
     """The program's answers."""
-    return list(answers_in(written_by(program, given(case.text for case in cases)), len(cases)))
+    output = written_by(program, given((item.case.text, item.place) for item in items))
+    return list(answers_in(output, [item.place for item in items]))
 
 
-def second_answer(text):
+def second_told(text):
     return second_text.read(text), second_text.listing_text(text)
+
+
+def second_answer(item):
+    """What the second program answers, in the same form."""
+    answer, written = item.told
+    length, entries = second_text.left(written, text_places.held(item.place))
+    return answer, length, text_places.shown(item.place, entries)
+
+
+def lent(rng, cases, told):
+    """Each text with a place that has the room. Then, for each answer and for the longest listing, texts with every kind of place, all of it shown."""
+    for case, both in zip(cases, told):
+        yield Item(case, both, text_places.roomy(rng, len(both[1])))
+    every = range(len(cases))
+    groups = [[at for at in every if told[at][0][0] == refusal] for refusal in (0, *REFUSALS)]
+    for group in [*groups, [max(every, key=lambda at: len(told[at][1]))]]:
+        for kind in text_places.LENGTHS:
+            for content in text_places.CONTENTS:
+                at = rng.choice(group)
+                yield Item(cases[at], told[at], text_places.whole(rng, kind, content))
 
 
 # ---- the comparison
@@ -76,25 +106,27 @@ def shown(text):
 
 
 def brief(mine, other):
-    """An answer in few words: of the bytes, the first line in which two differ."""
-    (*numbers, coefficients), written = mine
-    places = ", ".join(f"place {at} is {A}" for at, A in enumerate(coefficients) if A != other[0][-1][at])
-    pairs = enumerate(zip(written.split(b"\n") + [None], other[1].split(b"\n") + [None]), 1)
-    line = next((f"line {at} of the listing is {one!r}" for at, (one, two) in pairs if one != two), "the same listing")
-    return f"{(*numbers,)}, {places or 'the same places'}, {line}"
+    """An answer in few words: of the entries shown, those about the first in which two differ."""
+    (*numbers, coefficients), length, entries = mine
+    named = ", ".join(f"coefficient {at} is {A}" for at, A in enumerate(coefficients) if A != other[0][-1][at])
+    at = next((at for at, (one, two) in enumerate(zip(entries, other[-1])) if one != two), None)
+    about = "the same entries" if at is None else f"entry {at} of those shown is {entries[at]}, in {entries[max(0, at - 20):at + 20]!r}"
+    return f"{(*numbers,)}, {named or 'the same coefficients'}, {length} bytes told, {about}"
 
 
-def disagreements(cases, answers, expected):
+def disagreements(items, answers):
     """What is to be said of each text, by its number, that the two programs answer otherwise."""
-    return [f"disagreement on text {at}, {case.kind}: {shown(case.text)}\n"
-            f"    the proved program: {brief(got, wanted)}\n    the second program: {brief(wanted, got)}"
-            for at, (case, got, wanted) in enumerate(zip(cases, answers, expected)) if got != wanted]
+    for at, (item, got) in enumerate(zip(items, answers)):
+        wanted = second_answer(item)
+        if got != wanted:
+            yield (f"disagreement on text {at}, {item.case.kind}, with a place of {item.place.entries} entries, {item.place.content}: "
+                   f"{shown(item.case.text)}\n    the proved program: {brief(got, wanted)}\n    the second program: {brief(wanted, got)}")
 
 
-def misjudged(cases, expected):
+def misjudged(cases, told):
     """The same for each text of which the second program does not answer what follows from how it was made."""
     return [f"{case.kind}, which gives {case.number} at line {case.line}: the second program answers {answer[:2]} on {shown(case.text)}"
-            for case, (answer, _) in zip(cases, expected)
+            for case, (answer, _) in zip(cases, told)
             if case.number not in (None, answer[0]) or case.line not in (None, answer[1])]
 
 
@@ -117,7 +149,26 @@ def met(text, answer, written):
         yield from (("level", int(fields[0]), "mark", fields[-1].decode()) for fields in (row.split(b"\t") for row in written.split(b"\n")[:-2]))
 
 
+def met_of_place(item):
+    """What a place shows: how long it is, what it holds, and beside which answer all of it is seen, or the bytes written and those after them."""
+    (refusal, *_), written = item.told
+    kind, content, entries, *_, first, _ = item.place
+    yield "all of a place", kind, "that holds", content, "beside", refusal, "seen" if first == entries else "not seen"
+    yield "a place", kind, "that holds", content, "seen past what is written" if first > len(written) else "not seen"
+    if first == entries and written.count(b"\n") == LINES:
+        yield "all of a place", kind, "that holds", content, "beside the longest listing, seen"
+
+
+def wanted_of_places():
+    for content in text_places.CONTENTS:
+        for kind in text_places.LENGTHS:
+            yield from (("all of a place", kind, "that holds", content, "beside", refusal, "seen") for refusal in (0, *REFUSALS))
+            yield "all of a place", kind, "that holds", content, "beside the longest listing, seen"
+        yield from (("a place", kind, "that holds", content, "seen past what is written") for kind in text_places.ROOMY)
+
+
 def wanted():
+    yield from wanted_of_places()
     yield ("accepted",)
     yield from (("refused by", refusal) for refusal in REFUSALS)
     # every line of a text with the 81 terms that a degree above 8 may have, and the one after them
@@ -133,9 +184,10 @@ def wanted():
     yield from (("level", j, "mark", mark) for j in range(8) for mark in "0+-")
 
 
-def tally(cases, expected):
+def tally(cases, told, items):
     """Prints how often each refusal came up, and answers what never did."""
-    found = collections.Counter(thing for case, answer in zip(cases, expected) for thing in met(case.text, *answer))
+    found = collections.Counter(thing for case, both in zip(cases, told) for thing in met(case.text, *both))
+    found.update(thing for item in items for thing in met_of_place(item))
     print(f"read: {found['accepted',]} accepted, refused by " + ", ".join(f"{refusal}: {found['refused by', refusal]}" for refusal in REFUSALS))
     return [" ".join(map(str, thing)) for thing in wanted() if not found[thing]]
 
@@ -201,16 +253,16 @@ def unwritable(program):
             yield f"standard output {name}, {kind}", fault_unless_told(run)
 
 
-def some(cases, expected):
+def some(cases, told):
     """Of each kind of text one, and one of each refusal that the kind meets."""
     taken = set()
-    for case, (answer, written) in zip(cases, expected):
+    for case, (answer, written) in zip(cases, told):
         if (case.kind, answer[0]) not in taken:
             taken.add((case.kind, answer[0]))
             yield case.kind, case.text, written
 
 
-def listing_runs(program, cases, expected):
+def listing_runs(program, cases, told):
     """Runs of the listing program: what each is, and what is wrong with it, or nothing."""
     yield "the whole case", fault_of(ended(program, WHOLE), WHOLE_LISTING)
     yield "the whole case in pieces", fault_of(in_pieces(program, (WHOLE[:1], WHOLE[1:20], WHOLE[20:-1], WHOLE[-1:])), WHOLE_LISTING)
@@ -227,7 +279,7 @@ def listing_runs(program, cases, expected):
     yield "the deepest walk", fault_of(ended(program, deepest, stack=STACK), second_text.listing_text(deepest))
     yield from unreadable(program)
     yield from unwritable(program)
-    for kind, text, written in some(cases, expected):
+    for kind, text, written in some(cases, told):
         yield f"{kind}, {shown(text)}", fault_of(ended(program, text), written)
     for name in sheets.names():
         yield f"sheets/{name}.sheet", fault_of(ended(program, sheets.text(name)), (sheets.SHEETS / f"{name}.listing").read_bytes())
@@ -243,24 +295,26 @@ def main():
     devices.add_option(options)
     chosen = options.parse_args()
     cases = all_cases(chosen.seed, chosen.cases)
+    told = [second_told(case.text) for case in cases]
+    items = list(lent(random.Random(f"{chosen.seed} places"), cases, told))
     if chosen.only is not None:
-        cases = cases[chosen.only:chosen.only + 1]
-    expected = [second_answer(case.text) for case in cases]
-    answers = run(chosen.program, cases)
-    wrong, other = disagreements(cases, answers, expected), misjudged(cases, expected)
+        items = items[chosen.only:chosen.only + 1]
+    wrong, other = list(disagreements(items, run(chosen.program, items))), misjudged(cases, told)
     for line in wrong[:SHOWN] + other[:SHOWN]:
         print(line)
     missing, runs, faults = [], [], []
     if chosen.only is None:
-        missing, faults = tally(cases, expected), list(sheets.faults())
+        missing, faults = tally(cases, told, items), list(sheets.faults())
+        if written_by(chosen.program, text_places.MADE) != bytes(ROOM):
+            faults.append(f"reply::place makes other than {ROOM} zeros")
         if not chosen.listing.is_file():
             sys.exit(f"texts: {chosen.listing} is not there: `rt check` proves and builds it")
-        runs = list(listing_runs(chosen.listing, cases, expected))
+        runs = list(listing_runs(chosen.listing, cases, told))
     untried = devices.left_out(runs, chosen)
     failed = [(name, fault) for name, fault in runs if fault and (name, fault) not in untried]
     for line in [f"never came up: {thing}" for thing in missing] + faults + [f"listing, {name}: {fault}" for name, fault in failed]:
         print(line)
-    print(f"texts: seed {chosen.seed}, {len(cases) - len(wrong)} of {len(cases)} answers agree, "
+    print(f"texts: seed {chosen.seed}, {len(items) - len(wrong)} of {len(items)} answers agree, "
           f"{len(runs) - len(failed) - len(untried)} of {len(runs)} runs of listing are right, {len(sheets.names())} sheets with {len(faults)} faults")
     devices.tell(runs, chosen)
     return 1 if wrong or other or missing or failed or faults else 0
