@@ -9,6 +9,7 @@ import random
 import struct
 
 import second
+import second_walk
 
 # the calls that speak of one sheet, point or cell, and those that walk and are lent a place
 SINGLE = ("check", "value", "bounds")
@@ -59,7 +60,7 @@ def colours(rng, entries):
 def records(rng, entries):
     """Records of cells at any level."""
     cells = [(j, rng.randrange(2 ** j), rng.randrange(2 ** j)) for j in rng.choices(range(8), k=min(entries, 199))]
-    return [rng.randint(1, 3) + 4 * p + 512 * q + 65536 * j for j, p, q in cells] * AGAIN
+    return [second_walk.record_of(rng.randint(1, 3), *cell) for cell in cells] * AGAIN
 
 
 def any_bytes(rng, call, entries):

@@ -192,7 +192,7 @@ def met(call, args, answered):
         yield from ((call, "depth", k, "mode", rest[0], "colour", colour) for colour in set(values[-1][:4 ** k]))
     if call == "listing":
         records = values[-1][:values[0]]
-        seen = {(second_walk.cell_of(record)[0], record % 4) for record in records}
+        seen = {(second_walk.cell_of(record)[0], second_walk.colour_of(record)) for record in records}
         yield from ((call, "mode", rest[0], "level", j, "colour", colour) for j, colour in seen)
         if k <= 4:
             yield from ((call, "an open part within a cell cleared at level", j) for j in hiding(args, records))
@@ -201,7 +201,7 @@ def met(call, args, answered):
 def hiding(args, records):
     """The levels of the cleared cells, two or more above the finest, a part of which is open by its own bounds."""
     *sheet, k, mode, _ = args
-    cleared = [second_walk.cell_of(record) for record in records if record % 4 != 1]
+    cleared = [second_walk.cell_of(record) for record in records if second_walk.colour_of(record) != 1]
     return {at[0] for at in cleared if at[0] + 2 <= k
             and any(second.bounds(*sheet, k, mode, *part)[1] == "open" for part in second_walk.parts(*at))}
 
@@ -291,7 +291,7 @@ def pair_fault(k, raster, listing):
     if second_walk.unfolded(records, k) != place[:4 ** k]:
         return "the listing does not unfold to the raster"
     cut = {larger for record in records for larger in second_walk.enclosing(*second_walk.cell_of(record))}
-    counted = [1 + 4 * len(cut), sum(record % 4 == 1 for record in records)]
+    counted = [1 + 4 * len(cut), sum(second_walk.colour_of(record) == 1 for record in records)]
     if tally != counted or listed != counted:
         return f"the tallies are {tally} and {listed}, and the records count {counted}"
     if 3 * counted[0] != 4 * length - 1:

@@ -6,7 +6,7 @@
 The calls are check, value, bounds, raster, listing, read, and answer, which is the listing program's text; a text is a case of read and of answer.
 The cases are those of tests/many_cases.py, made in parts: which cases a part has follows from the seed and its name alone, and so does what their
 places hold. For each part target/bin/compare or target/bin/compare_texts is run once, and all that it answers is compared as in tests/compare.py and
-tests/texts.py: every number, every entry of every place that is lent to raster and listing, every byte of a listing, and some hundred entries of its
+tests/texts.py: every number, every entry of every place that is lent to raster and listing, every byte of a listing, and up to 600 entries of its
 place after it and at the end. Every walk of the second program is held to what the page says of walks.
 
 At the end stand, for each call, the accepted cases by degree and by depth, and the cases that agreed by their number, 0 for an accepted one, with

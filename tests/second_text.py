@@ -12,7 +12,7 @@ import sys
 
 sys.dont_write_bytecode = True  # nothing is left in the tree
 import second
-from second_walk import cell_of
+from second_walk import cell_of, colour_of
 
 LONGEST = 8_192
 PLACES = 45
@@ -109,7 +109,7 @@ def listing_text(text):
         return line_of(b"refused", number, line)
     used = list(coefficients[:len(second.exponents(d))])
     _, length, visited, coloured, place = second.listing(d, used, X, Y, s, k, mode, [0] * 4 ** k)
-    records = [line_of(*cell_of(record), MARKS[record % 4]) for record in place[:length]]
+    records = [line_of(*cell_of(record), MARKS[colour_of(record)]) for record in place[:length]]
     return b"".join(records) + line_of(b"total", visited, coloured)
 
 

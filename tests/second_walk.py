@@ -77,9 +77,17 @@ def raster_of(found, k):
     return [COLOURS[covering[p, q]] for q in range(2 ** k) for p in range(2 ** k)]
 
 
+def record_of(colour, j, p, q):
+    return colour + 4 * p + 512 * q + 65536 * j
+
+
 def listing_of(found, k):
     """The records of the visited cells, in walking order, without those that are cut."""
-    return [COLOURS[verdict] + 4 * p + 512 * q + 65536 * j for (j, p, q), verdict in found.items() if verdict != "open" or j == k]
+    return [record_of(COLOURS[verdict], *at) for at, verdict in found.items() if verdict != "open" or at[0] == k]
+
+
+def colour_of(record):
+    return record % 4
 
 
 def cell_of(record):
@@ -102,7 +110,7 @@ def unfolded(records, k):
             run = slice(row * 2 ** k + p * side, row * 2 ** k + (p + 1) * side)
             if told[run] != [None] * side:
                 return None
-            told[run] = [record % 4] * side
+            told[run] = [colour_of(record)] * side
     return told
 
 

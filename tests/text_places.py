@@ -67,7 +67,7 @@ def whole(rng, kind, content):
 
 
 def partly(rng, kind, content, written):
-    """A place of which the bytes written are shown, with some hundred entries after them, and the last entries. The run is at either end."""
+    """A place of which the bytes written are shown, with up to 600 entries after them, and the last entries. The run is at either end."""
     entries = rng.randint(*LENGTHS[kind])
     first, last = min(entries, written + rng.randint(1, 600)), min(entries, rng.randint(1, 600))
     at_the_end = rng.random() < 0.25

@@ -4,7 +4,7 @@
     python3 tests/texts.py --only NUMBER              one text of that run again, by its number
 
 The program target/bin/compare_texts is run once, on all texts of tests/text_cases.py, each with a place for the call `answer`, of tests/text_places.py:
-first each text with a place that has the room, of which what is written is shown, some hundred entries after it, and the last ones; then texts of every
+first each text with a place that has the room, of which what is written is shown, up to 600 entries after it, and the last ones; then texts of every
 answer, and the one with the longest listing, with places of every length and content, of which all is shown. It answers for each 53 words of 8 bytes,
 all little-endian: the number, the line, d, X, Y, s, k, the mode and the 45 coefficients; then in one more word what `answer` answers, and the entries
 that are shown. Every answer is compared with that of tests/second_text.py; and where the number and the line are known from how a text was made, the

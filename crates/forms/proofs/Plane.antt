@@ -26,7 +26,7 @@ use Rattle.forms.specs.Box.{InBox, Signs, corner}
 use Rattle.forms.specs.LocalForm.{local}
 use Rattle.forms.specs.Bounds.{Mode, affine, centred, even-rule, low, high, lower, upper, bent, bend}
 use Rattle.forms.specs.Weight.{weight}
-use Rattle.forms.specs.Plane.{pair, plane, even-pair, AtCorners, moved-term, moved, page-scaled}
+use Rattle.forms.specs.Plane.{pair, plane, even-pair, AtCorners, moved-term, moved}
 use Rattle.forms.proofs.Vectors.{sum-vectors-zero, sum-vectors-suc}
 use Rattle.forms.proofs.Points.{each-cons}
 use Rattle.forms.proofs.Coordinates.{value-agree}
@@ -57,6 +57,10 @@ scale-page k n = rw (← (pos-pow 2 (k + 1)), ← (pow-* (pos 2) (k + 1) n)) (po
 
 pub scale-pageℕ : (k n : ℕ) → (2 ^ (k + 1)) ^ n ≡ 2 ^ ((k + 1) * n)
 scale-pageℕ k n = ap natAbs (sym (pos-pow (2 ^ (k + 1)) n) ∙ scale-page k n)
+
+-- A(i,j) 2^((k+1)(d-i-j))
+abbrev page-scaled : ℕ → ℕ → (ℕ → ℕ → ℤ) → ℕ → ℕ → ℤ
+page-scaled d k A i j = A i j *ℤ pos (2 ^ ((k + 1) * (d - i - j)))
 
 module _ (d k : ℕ) (A : ℕ → ℕ → ℤ) where
   -- ---- F at M/Q and N/Q, times Q^d

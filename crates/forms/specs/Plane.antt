@@ -1,7 +1,7 @@
 -- The plane: polynomials, points and limits with two variables.
 use mathlib.Core.Bool.{Bool, false, _&&_}
 use mathlib.Core.List.{List, [], _∷_}
-use Prim.Native.Nat.{ℕ, zero, suc, _+_, _*_, _-_, _^_, _%_}
+use Prim.Native.Nat.{ℕ, zero, suc, _+_, _-_, _%_}
 use lib.Dec.{eqb}
 use lib.IntN.{ℤ, pos, _+ℤ_, _-ℤ_, _*ℤ_, pow}
 use Rattle.algebra.specs.Sum.{sum, _⋯_}
@@ -36,13 +36,10 @@ even-pair centred a b = false
 abbrev pub AtCorners : ℤ → ℤ → ℕ → (ℤ → ℤ → Type 0) → Type 0
 AtCorners U0 V0 H P = P (U0 -ℤ pos H) (V0 -ℤ pos H) × P (U0 +ℤ pos H) (V0 -ℤ pos H) × P (U0 -ℤ pos H) (V0 +ℤ pos H) × P (U0 +ℤ pos H) (V0 +ℤ pos H)
 
--- the local form of a table f(i,j), i + j ≤ d, about (u, v) with the half-side h: the sum over i ≥ a, j ≥ b of f(i,j) C(i,a) C(j,b) u^(i-a) v^(j-b) h^(a+b)
+-- what f(i,j) gives to the place (a,b) of its local form about (u, v) with the half-side h: f(i,j) C(i,a) C(j,b) u^(i-a) v^(j-b) h^(a+b)
 abbrev pub moved-term : (ℕ → ℕ → ℤ) → ℤ → ℤ → ℤ → ℕ → ℕ → ℕ → ℕ → ℤ
 moved-term f u v h a b i j = f i j *ℤ pos (choose i a) *ℤ pos (choose j b) *ℤ pow u (i - a) *ℤ pow v (j - b) *ℤ pow h (a + b)
 
+-- the local form of a table f(i,j), i + j ≤ d: the sum over i ≥ a, j ≥ b of these
 unfoldable pub moved : ℕ → (ℕ → ℕ → ℤ) → ℤ → ℤ → ℤ → ℕ → ℕ → ℤ
 moved d f u v h a b = sum (a ⋯ d) (λ i. sum (b ⋯ (d - i)) (λ j. moved-term f u v h a b i j))
-
--- the table that a sheet's coefficients give with the scale 2^(k+1): A(i,j) 2^((k+1)(d-i-j))
-abbrev pub page-scaled : ℕ → ℕ → (ℕ → ℕ → ℤ) → ℕ → ℕ → ℤ
-page-scaled d k A i j = A i j *ℤ pos (2 ^ ((k + 1) * (d - i - j)))

@@ -1,5 +1,4 @@
--- The definitions at the page's numbers, computed. The starred figures stand in the crate `starred`, and few of them here, where an edit of a definition is to be refused at once; these are figures of
--- single cells, small walks, and the edges of the refusal table.
+-- The definitions at the page's numbers, computed: figures of single cells, small walks, and the edges of the refusal table. The starred figures stand in the crate `starred`, and few of them here.
 use mathlib.Core.Path.{_≡_, refl}
 use mathlib.Core.List.{[], _∷_}
 use Prim.Native.Nat.{ℕ}
@@ -52,7 +51,7 @@ verdicts : (verdict P1 affine 0 0 0 ≡ Above (pos 16) (pos 144)) × (verdict P4
 unfolding pow one sum sumℕ run span _⋯_ choose minℤ maxℤ row-start judged G lower upper
 verdicts = (refl, refl, refl)
 
--- ---- weight, spare places
+-- ---- weight
 weights : (R P1 ≡ 1) × (weight P1 ≡ 144) × (R (square 0 (pos 0 ∷ []) (negsuc 7) 2 0) ≡ 8) × (R (square 0 (pos 0 ∷ []) (pos 5) 3 0) ≡ 13)
 unfolding sum sumℕ run span _⋯_ row-start weight
 weights = (refl, refl, refl, refl)

@@ -15,7 +15,7 @@ use Rattle.algebra.proofs.Power.{*-pow}
 use Rattle.algebra.proofs.Sum.{sumℕ-++}
 use Rattle.algebra.proofs.Run.{span-++, sumℕ-span-none, sumℕ-span-next}
 use Rattle.verdicts.specs.Walking.{Verdicts, colour, raster, coloured, those, record-of}
-use Rattle.verdicts.specs.Facts.{ColouredCounted}
+use Rattle.verdicts.specs.Facts.{colour-in, ColouredCounted}
 use Rattle.verdicts.specs.Operational.{coloured-from, records-from}
 use Rattle.verdicts.proofs.Cells.{walk-induction, coloured-cleared, coloured-last, coloured-open, records-cleared, records-last, records-open}
 use Rattle.verdicts.proofs.Colours.{colour-of-small}
@@ -68,12 +68,12 @@ in-raster v k = sym (
 -- ---- in the listing
 -- the colour of a record is 1
 abbrev is-coloured : ℕ → Bool
-is-coloured r = eqb (r % 4) 1
+is-coloured r = eqb (colour-in r) 1
 
 record-counted : (c level p q : ℕ) → c ≤ 3 → length (those is-coloured (record-of c level p q ∷ [])) ≡ cond (eqb c 1) 1 0
 unfolding those
 record-counted c level p q h =
-    let e : record-of c level p q % 4 ≡ c = omega arith in
+    let e : colour-in (record-of c level p q) ≡ c = omega arith in
     cond-ap length (is-coloured (record-of c level p q)) (record-of c level p q ∷ []) [] ∙ ap (λ d. cond (eqb d 1) 1 0) e
 
 coloured-records : (v : Verdicts) (level n p q : ℕ) → length (those is-coloured (records-from v level n p q)) ≡ coloured-from v level n p q

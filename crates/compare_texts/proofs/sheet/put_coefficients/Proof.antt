@@ -1,4 +1,4 @@
--- `texts::sheet::put_coefficients` is safe and ends: each word lies within the bytes.
+-- `compare_texts::sheet::put_coefficients` is safe and ends: each word lies within the bytes.
 use mathlib.Core.Path.{_≡_}
 use Prim.Native.Nat.{_≤_, _-_}
 use borrow.Author.Needs.{needs}
