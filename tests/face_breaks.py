@@ -12,6 +12,8 @@ FILLED = "FillPromise mode (now (place .entry)) r (now (place .exit))"
 BROUGHT = "use Rattle.probe.specs.Promises.{CheckPromise, FillPromise};\n"
 TWICE = "OneCheck = (S : Sheet) (r t : Checked) → CheckPromise S r → CheckPromise S t → r ≡ t"
 PLACES = "→ (r ≡ t) × (now ≡ after)"
+PROMISE = "abbrev pub CheckPromise : Sheet → Checked → Type 0\n"
+CLAUSE, FILLS = "CheckPromise S r = r ≡ Refused (S .d)", "FillPromise mode old r now = (r ≡ mode) × (now ≡ old)"
 TYPES, FUNCTIONS = "An inner crate: types, and no functions.", "An inner crate: what its functions require, every caller proves."
 # another promise in the place of the one there
 OTHER = (LIB, BROUGHT, BROUGHT.replace("Fill", "Other")), (LIB, "FillPromise mode", "OtherPromise mode")
@@ -28,6 +30,7 @@ METHOD = "impl Checked {\n    pub fn asking(self) -> u32\n        requires { ⌜
 ASKS = "is a public call and has a `requires`"
 NO_PROMISE = f"probe::fill ensures what is no promise of {SPECS}"
 NOT_ONE = f"OneCheck of {SPECS} does not say that CheckPromise has one outcome"
+ILL_SAID = f"CheckPromise of {SPECS} has not a type for each thing that it speaks of, and one clause"
 PLACES_NOT_ONE = f"OneFill of {SPECS} does not say that FillPromise has one outcome"
 
 # the ways in which a library shows a function: its name from outside, and the edits
@@ -92,6 +95,23 @@ BREAKS = {
         (NO_PROMISE, *OTHER),
         (NO_PROMISE, *OTHER, (SPECS, "\nabbrev OtherPromise : Sheet → Type 0\nOtherPromise S = Sheet\n")),
         (NO_PROMISE, *OTHER, (SPECS, "use Prim.Native.Nat.{ℕ}\n", "use Prim.Native.Nat.{ℕ}\npub use Rattle.page.specs.Facts.{OtherPromise}\n")),
+        (ILL_SAID, (SPECS, PROMISE, PROMISE.replace("Sheet → Checked", "{T : Type 0} → Sheet → T"))),
+        (ILL_SAID, (SPECS, PROMISE, PROMISE.replace("CheckPromise : Sheet → Checked", "CheckPromise {T : Type 0} : Sheet → T"))),
+        (ILL_SAID, (SPECS, PROMISE, PROMISE.replace("Sheet → Checked", "(T : Type 0) → T → Checked"))),
+        (ILL_SAID, (SPECS, PROMISE, PROMISE.replace("CheckPromise", "CheckPromise OtherPromise"))),
+        (ILL_SAID, (SPECS, CLAUSE, f"{CLAUSE}\n{CLAUSE}")),
+        (ILL_SAID, (SPECS, CLAUSE, "CheckPromise S (Refused r) = r ≡ S .d")),
+        (ILL_SAID, (SPECS, CLAUSE, "CheckPromise S = λ r. r ≡ Refused (S .d)")),
+        (ILL_SAID, (SPECS, CLAUSE, "CheckPromise r r = r ≡ Refused (r .d)")),
+        (f"CheckPromise of {SPECS} says nothing of S", (SPECS, CLAUSE, "CheckPromise S r = r ≡ r"), (SPECS, "\nmore = Refused\n")),
+        (f"FillPromise of {SPECS} says nothing of now", (SPECS, FILLS, "FillPromise mode old r now = (r ≡ mode) × (old ≡ old)")),
+        *((f"CheckPromise of {SPECS} has a `{word}`, by which a name may mean something else", (SPECS, CLAUSE, clause)) for word, clause in (
+            ("where", "CheckPromise S r = same where\n  same = r ≡ Refused (S .d)"),
+            ("let", "CheckPromise S r = let r = Refused (S .d) in r ≡ Refused (S .d)"),
+            ("λ", "CheckPromise S r = (λ r. r ≡ r) (Refused (S .d))"),
+        )),
+        ("probe::check ensures CheckPromise of other things than it speaks of",
+         (SPECS, PROMISE, PROMISE.replace("Sheet →", "Sheet → Sheet →")), (SPECS, CLAUSE, "CheckPromise S T r = r ≡ Refused (S .d) (T .d)")),
         (NO_PROMISE.replace("fill", "check"), (LIB, SHEET, SHEET.replace("x y", "y x"))),
         ("probe::check speaks of another sheet than that of crates/page/specs/Sheet.antt", (LIB, "page.specs.Sheet.{", "page.specs.Facts.{")),
         ("probe::fill ensures something of an answer mode, which hides what it is given",
@@ -115,6 +135,9 @@ BREAKS = {
             TWICE.replace("CheckPromise S t", "CheckPromise S r"),
             TWICE.replace("(S : Sheet)", "(S Z : Sheet)").replace("CheckPromise S t", "CheckPromise Z t"),
             TWICE.replace("(S : Sheet)", "(Z : Sheet)"),
+            TWICE.replace("(r t : Checked)", "(r t : ⊥)"),
+            TWICE.replace("(r t : Checked)", "(r : Checked) (t : ⊥)"),
+            TWICE.replace("(S : Sheet) (r t : Checked)", "(r t : Checked) (S : Sheet)"),
             TWICE.replace("(r t : Checked)", "(r t : Checked) (h : Sheet → Checked)"),
             TWICE + "\nOneCheck = CheckPromise",
         )),

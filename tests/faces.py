@@ -6,7 +6,8 @@ and one that C may call. A call
 
 - has no `requires`, and one `ensures`, which is a promise of its crate's specs/Promises.antt on all that is given and on the outcome, and no more;
   and docs/PROMISES.md gives that promise for it;
-- has one outcome: docs/PROMISES.md gives for it a statement of specs/Promises.antt, and a theorem, that no two outcomes satisfy the promise;
+- has a promise with the types of what it speaks of, that nobody chooses, and one clause, which speaks of each of these things;
+- has one outcome: docs/PROMISES.md gives for it a statement of specs/Promises.antt, and a theorem, that no two outcomes of these types satisfy the promise;
 - has two wrong answers at least: edits of its crate whose rows in docs/PROMISES.md begin with its name.
 """
 import collections
@@ -28,8 +29,8 @@ WRONG = 2
 
 # a function that is shown: its name from outside, the crate that has it, and the function
 Call = collections.namedtuple("Call", "shown name crate function")
-# what a call ensures: the promise's name, how many things it speaks of, and which of them are outcomes
-Promise = collections.namedtuple("Promise", "name count outcomes")
+# what a call ensures: the promise's name, the types of the things that it speaks of, and which of these are outcomes
+Promise = collections.namedtuple("Promise", "name types outcomes")
 
 
 class Fault(Exception):
@@ -123,6 +124,24 @@ def given(call, answer):
     return before, [answer, *(f"(now ({name} .exit))" for name in lent)]
 
 
+def types_of(file, name):
+    """The types of what a promise speaks of: declared without braces, so that a type is the one that is written, and spoken of in its one clause."""
+    said = [text for _, margin, text in blocks(file) if not margin and re.search(rf"(?:^|\s){name}(?:\s|$)", text.split(" = ")[0].split(" : ")[0])]
+    found = len(said) == 2 and re.fullmatch(rf"(?:\w+ )+{name} : ([^{{}}:=]*) → Type 0", said[0])
+    clause = found and re.fullmatch(rf"{name} ((?:(?!= ){NAME} )+)= (.*)", said[1])
+    types, things = (found[1].split(" → "), clause[1].split()) if clause else ([], [])
+    if not clause or not len(types) == len(things) == len(set(things)):
+        raise Fault(f"{name} of {named(file)} has not a type for each thing that it speaks of, and one clause")
+    words = re.findall(NAME, clause[2])
+    for thing in things:
+        if thing not in words:
+            raise Fault(f"{name} of {named(file)} says nothing of {thing}")
+    for word in ("where", "let", "λ"):
+        if word in words:
+            raise Fault(f"{name} of {named(file)} has a `{word}`, by which a name may mean something else")
+    return types
+
+
 def promise_of(call):
     """The promise that a call ensures."""
     function, file = call.function, call.function.module.file
@@ -148,7 +167,10 @@ def promise_of(call):
     for operator in [brought for use in uses(file) for _, brought in use.items if "_" in brought]:
         if set(operator.split("_")) & set(re.findall(NAME, function.clauses[0][1])):
             raise Fault(f"{call.shown} ensures something by a word of the operator {operator}")
-    return Promise(name, len(before + after), list(range(len(before), len(before + after))))
+    types = types_of(promises, name)
+    if len(types) != len(before + after):
+        raise Fault(f"{call.shown} ensures {name} of other things than it speaks of")
+    return Promise(name, types, list(range(len(before), len(types))))
 
 
 def contracts():
@@ -179,19 +201,20 @@ def promises_told():
 # ---- one outcome
 
 def says_one(text, promise):
-    """Whether a statement says that of two outcomes that satisfy a promise, at the same things given, each part is the same."""
-    binder = r"\(([^():]+) : (?:[^()]|\([^()]*\))+\) "
+    """Whether a statement says that of any two outcomes that satisfy a promise, at the same things given, each part is the same."""
+    binder = r"\(([^():]+) : ((?:[^()]|\([^()]*\))+)\) "
     found = re.fullmatch(rf"((?:{binder})+)→ {promise.name} ([^()→]+) → {promise.name} ([^()→]+) → (.*)", text)
     if not found:
         return False
-    bound = " ".join(names[1] for names in re.finditer(binder, found[1])).split()
-    one, other = found[3].split(), found[4].split()
-    if not len(one) == len(other) == promise.count or [n for n in range(promise.count) if one[n] != other[n]] != promise.outcomes:
+    bound = [(name, kind) for names, kind in re.findall(binder, found[1]) for name in names.split()]
+    one, other, count = found[4].split(), found[5].split(), len(promise.types)
+    if not len(one) == len(other) == count or [n for n in range(count) if one[n] != other[n]] != promise.outcomes:
         return False
-    spoken = one + [other[n] for n in promise.outcomes]
+    # everything that the promise speaks of, in its order and with its type, and an outcome twice
+    spoken = [(name, promise.types[n]) for n in range(count) for name in ([one[n], other[n]] if n in promise.outcomes else [one[n]])]
     same = [f"{one[n]} ≡ {other[n]}" for n in promise.outcomes]
     both = same[0] if len(same) == 1 else " × ".join(f"({part})" for part in same)
-    return len(set(spoken)) == len(spoken) and sorted(bound) == sorted(spoken) and found[5] == both
+    return len({name for name, _ in spoken}) == len(spoken) and bound == spoken and found[6] == both
 
 
 def one_outcome():
