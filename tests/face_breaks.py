@@ -66,10 +66,17 @@ WAYS = [
     ("probe::third", (LIB, "pub use numbers::half as third;\n")),
     ("probe::numbers::half", (LIB, "pub use numbers;\n")),
     ("probe::more::half", (LIB, "pub use numbers as more;\n")),
+    # behind a module of the same name: of the crate's, and of the function's
+    ("probe::half", (LIB, "mod numbers {\n    pub const half: u32 = 0;\n}\npub use ::numbers::half;\n")),
+    ("probe::half", (LIB, "mod numbers {\n    pub const half: u32 = 0;\n}\npub use {::numbers::half};\n")),
+    ("probe::first", (PART, "pub fn first", "pub mod first {\n    pub const N: u32 = 0;\n}\n\npub fn first"), (LIB, "pub use refusals::first;\n")),
+    ("probe::first", (PART, "pub fn first", "pub const first: u32 = 0;\n\npub fn first"), (LIB, "pub use refusals::first;\n")),
+    ("probe::half", (PART, "\nuse numbers::*;\npub mod half {}\n"), (LIB, "pub use refusals::half;\n")),
     # a function of a type that is shown, or that is met by what another holds
     ("probe::Checked::asking", (LIB, METHOD)),
     ("probe::Checked::asking", (LIB, f"mod more {{\n    mod within {{\n        use crate::Checked;\n{METHOD}    }}\n}}\n")),
     ("probe::Checked::asking", (LIB, f"mod more {{\n    use crate::Checked as C;\n{METHOD.replace('impl Checked', 'impl C')}}}\n")),
+    ("probe::Checked::asking", (LIB, f"mod more {{\n    mod C {{}}\n    use crate::Checked as C;\n{METHOD.replace('impl Checked', 'impl C')}}}\n")),
     ("probe::Checked::asking", (LIB, f"type C = Checked;\n{METHOD.replace('impl Checked', 'impl C')}")),
     ("probe::Known::asking", (LIB, METHOD.replace("Checked", "Known")), (LIB, "{ verdict: Verdict }", "{ verdict: Verdict, known: Known }")),
     ("probe::Known::asking", (LIB, METHOD.replace("Checked", "Known")), (LIB, "pub const KNOWN: Known = Known { n: 8 };\n")),

@@ -273,30 +273,32 @@ class Faces:
         self.roots = roots
 
     def named(self, module, name, met=()):
-        """What a name means in a module; nothing, where it is of no crate here."""
+        """All that a name may mean in a module, by its own items and by stars: a module and a function may share one. Nothing, where it is of no crate here."""
         if (module, name) in met:
-            return None
-        met = (*met, (module, name))
-        stars = []
+            return []
+        met, found = (*met, (module, name)), []
         for _, item in module.items:
-            if isinstance(item, Use) and item.path[-1] == "*":
-                stars.append(item.path[:-1])
+            if not isinstance(item, Use):
+                found += [item] if item.name == name else []
+            elif item.path[-1] == "*":
+                found += [one for home in self.meant(module, item.path[:-1], met) if isinstance(home, Module) for one in self.named(home, name, met)]
             elif item.name == name:
-                return self.meant(module, item.path, met) if isinstance(item, Use) else item
-        homes = [self.meant(module, path, met) for path in stars]
-        return next((found for home in homes if isinstance(home, Module) and (found := self.named(home, name, met))), None)
+                found += self.meant(module, item.path, met)
+        return found
 
     def meant(self, module, path, met=()):
-        """What a path means in a module."""
+        """All that a path may mean in a module. What it begins with may be a crate's name, with `::` before it or not, whatever else has that name."""
         first, *rest = path
         if first in WITHIN:
-            found = {"crate": module.root(), "self": module, "super": module.parent}[first]
+            found = [{"crate": module.root(), "self": module, "super": module.parent}[first]]
         else:
-            found = self.named(module, first, met) or self.roots.get(first)
+            found = self.named(module, first, met) + [self.roots[crate] for crate in self.roots if crate == first]
         for name in rest:
-            if isinstance(found, Module):
-                found = found.parent if name == "super" else self.named(found, name, met)
-        return found
+            homes = [home for home in found if isinstance(home, Module)]
+            # what a type holds counts as the type
+            found = [home for home in found if isinstance(home, Type)]
+            found += [one for home in homes for one in ([home.parent] if name == "super" else self.named(home, name, met))]
+        return [one for one in found if one]
 
     def shown(self, module, name, met=()):
         """What a module shows: its name from outside, and the item, or nothing where it is of no crate here."""
@@ -307,11 +309,12 @@ class Faces:
             if not public:
                 continue
             if isinstance(item, Use):
-                found = self.meant(module, item.path[:-1] if item.path[-1] == "*" else item.path)
-                if isinstance(found, Module):
-                    yield from self.shown(found, name if item.path[-1] == "*" else f"{name}::{item.name}", met)
-                    continue
-                yield f"{name}::{item.name}", found
+                star = item.path[-1] == "*"
+                for one in self.meant(module, item.path[:-1] if star else item.path) or [None]:
+                    if isinstance(one, Module):
+                        yield from self.shown(one, name if star else f"{name}::{item.name}", met)
+                    else:
+                        yield f"{name}::{item.name}", one
             elif isinstance(item, Module):
                 yield from self.shown(item, f"{name}::{item.name}", met)
             else:
@@ -320,8 +323,7 @@ class Faces:
     def held(self, module, tokens):
         """The types that stand among tokens: those of paths and of single names."""
         paths = re.findall(r"[A-Za-z_]\w*(?: :: \w+)*", " ".join(token if isinstance(token, str) else " " for token in tokens))
-        found = (self.meant(module, tuple(path.split(" :: "))) for path in paths)
-        return [item for item in found if isinstance(item, Type)]
+        return [item for path in paths for item in self.meant(module, tuple(path.split(" :: "))) if isinstance(item, Type)]
 
     def face(self, crate):
         """All that a library shows: functions, each with its name from outside, and types; and the names that lead to no crate here."""
@@ -350,7 +352,7 @@ class Faces:
             known += self.held(one.module, one.tokens)
             for module in one.module.root().within():
                 for path, public, item in module.methods:
-                    if public and not item.exported and self.meant(module, path) is one:
+                    if public and not item.exported and any(kind is one for kind in self.meant(module, path)):
                         functions.append((f"{crate}::{one.name}::{item.name}", item))
                         known += self.held(module, [token for _, kind in item.given for token in kind] + item.answer)
         return functions, met, lost
