@@ -21,6 +21,7 @@ OTHER = (LIB, BROUGHT, BROUGHT.replace("Fill", "Other")), (LIB, "FillPromise mod
 PROMISED = "| `check` | `crates/probe/specs/Promises.antt` `CheckPromise` |\n"
 ONE = "| `check` | `crates/probe/specs/Promises.antt` `OneCheck` | `crates/probe/proofs/Promises.antt` `one-check` |\n"
 SAID = "| sentence | statement | theorem |\n|---|---|---|\n"
+CLEARED = "| `probe/must-fail/place_cleared` | `fill`: the first entry cleared | the place afterwards |\n"
 TRIED = "| `probe/must-fail/another_number` | `check`: the depth for the degree | the number |\n"
 MORE = ("crates/probe/must-fail/more.edit", "file: src/lib.rt\nold: x\nnew: y\n")
 # a function that asks for something, and one of a type that does
@@ -31,6 +32,7 @@ ASKS = "is a public call and has a `requires`"
 NO_PROMISE = f"probe::fill ensures what is no promise of {SPECS}"
 NOT_ONE = f"OneCheck of {SPECS} does not say that CheckPromise has one outcome"
 ILL_SAID = f"CheckPromise of {SPECS} has not a type for each thing that it speaks of, and one clause"
+STRANGE = "as a wrong answer of CALL, and no proof of what CALL comes to refuses it"
 PLACES_NOT_ONE = f"OneFill of {SPECS} does not say that FillPromise has one outcome"
 
 # the ways in which a library shows a function: its name from outside, and the edits
@@ -154,13 +156,25 @@ BREAKS = {
         ("docs/PROMISES.md has a statement on the call `more`, which nothing shows", (PAGE, ONE, ONE + ONE.replace("`check`", "`more`"))),
     ],
     faces.wrong_answers: [
-        ("docs/PROMISES.md has 1 wrong answers of probe::check, and not 2", (PAGE, "`check`: the depth", "`fill`: the depth")),
+        ("docs/PROMISES.md has 1 wrong answers of probe::check, and not 2", (PAGE, "`check`, `fill`: everything", "`fill`: everything")),
         ("docs/PROMISES.md has 0 wrong answers of probe::again, and not 2",
          (LIB, "pub use check as again;\n"), *((PAGE, row, row + row.replace("`check`", "`again`")) for row in (PROMISED, ONE))),
         ("docs/PROMISES.md does not say of which call `probe/must-fail/more` is a wrong answer",
          MORE, (PAGE, TRIED, TRIED + "| `probe/must-fail/more` | `check` refuses more | the number |\n")),
         ("docs/PROMISES.md has `probe/must-fail/more` as a wrong answer of first, which probe does not show",
          MORE, (PAGE, TRIED, TRIED + "| `probe/must-fail/more` | `first`: more refused | the number |\n")),
+        # another call's, as it was or beside its own; one of a function that the call does not come to, or comes to only by its word
+        (f"docs/PROMISES.md has `probe/must-fail/another_number` {STRANGE.replace('CALL', 'fill')}",
+         (PAGE, TRIED, TRIED.replace("`check`:", "`check`, `fill`:"))),
+        (f"docs/PROMISES.md has `probe/must-fail/place_cleared` {STRANGE.replace('CALL', 'check')}", (PAGE, CLEARED, CLEARED.replace("`fill`", "`check`")),
+         MORE, (PAGE, TRIED, TRIED + "| `probe/must-fail/more` | `fill`: more refused | the number |\n")),
+        (f"docs/PROMISES.md has `probe/must-fail/another_number` {STRANGE.replace('CALL', 'fill')}",
+         (LIB, "    refusals::first(mode)", "    check(mode)"), (PAGE, "`check`, `fill`: everything", "`check`: everything"),
+         MORE, (PAGE, TRIED, TRIED.replace("`check`:", "`check`, `fill`:") + "| `probe/must-fail/more` | `fill`: more refused | the number |\n")),
+        *((f"docs/PROMISES.md has `probe/must-fail/more` {STRANGE.replace('CALL', 'fill')}", *edits,
+           (MORE[0], f"refused: proofs/refusals/{home}/Proof.antt returns\n{MORE[1]}"),
+           (PAGE, TRIED, TRIED + "| `probe/must-fail/more` | `fill`: more refused | the number |\n"))
+          for home, *edits in (("last",), ("last", (LIB, "    refusals::first(mode)", "    let last = refusals::first(mode);\n    last")), ("+last+next",))),
     ],
     faces.shown_types: [
         ("probe::write_all is of no crate here", (LIB, "pub use io::write_all;\n")),
@@ -194,4 +208,8 @@ KEEPS = [
     ("a call in a module", (LIB, "// Fill a place.\npub fn fill(", "// Fill a place.\npub use more::fill;\nmod more {\npub fn fill("), (LIB, "}\n")),
     ("a call that is shown twice", (LIB, "pub mod more {\n    pub use super::fill;\n}\n")),
     ("a place that is lent for a time", (LIB, "fn fill(\n", "fn fill<'a>(\n"), (LIB, "&mut [u8]", "&'a mut [u8]")),
+    ("a wrong answer of a call that several functions refuse", MORE, (MORE[0], "file", "refused: proofs/refusals/+last+first/Proof.antt returns\nfile"),
+     (PAGE, TRIED, TRIED + "| `probe/must-fail/more` | `fill`: more refused | the number |\n")),
+    ("a wrong answer in a definition", MORE, (MORE[0], "file", "refused: proofs/Promises.antt one-fill\nfile"),
+     (PAGE, TRIED, TRIED + "| `probe/must-fail/more` | `fill`: more refused | the number |\n")),
 ]

@@ -8,7 +8,8 @@ and one that C may call. A call
   and docs/PROMISES.md gives that promise for it;
 - has a promise with the types of what it speaks of, that nobody chooses, and one clause, which speaks of each of these things;
 - has one outcome: docs/PROMISES.md gives for it a statement of specs/Promises.antt, and a theorem, that no two outcomes of these types satisfy the promise;
-- has two wrong answers at least: edits of its crate whose rows in docs/PROMISES.md begin with its name.
+- has two wrong answers at least: edits of its crate whose rows in docs/PROMISES.md begin with its name. Where proofs of functions refuse such an edit,
+  one of them is that of the call itself, or of a function that it comes to and that is no other call.
 """
 import collections
 import re
@@ -239,19 +240,39 @@ def one_outcome():
 
 # ---- wrong answers
 
+def reached(call, others):
+    """The functions of its crate that a call comes to, by their names: itself, those that it calls, and so on; without the other calls."""
+    functions = [one for module in call.function.module.root().within() for one in module.functions()]
+    found, more = set(), {call.function.name}
+    while more:
+        found |= more
+        more = {name for one in functions if one.name in more for name in one.called} - found
+    return found - {other.function.name for other in others if other.crate == call.crate} | {call.function.name}
+
+
+def refusing(edit):
+    """The functions whose proofs refuse an edit, by their names; none, where only other files do, and an edit of a definition may be of any call."""
+    path = at(f"crates/{edit.strip('`')}.edit")
+    homes = re.findall(r"^refused: proofs/(?:\S+/)?([^\s/]+)/Proof\.antt\b", text_of(path), re.M) if path.is_file() else []
+    return {name for home in homes for name in home.split("+") if name}
+
+
 def wrong_answers():
-    """Each call has its wrong answers, and each edit of its crate begins with calls that the crate shows."""
+    """Each call has its wrong answers, each edit of its crate begins with calls that the crate shows, and each of these has to do with it."""
     tried, shown = [], [crate for crate, _ in public()]
     for _, (edit, meaning, *_) in [row for row in tables("PROMISES.md") if row[0] == EDITED]:
         crate, said = edit.strip("`").split("/")[0], re.match(r"((?:`\w+`, )*`\w+`): ", meaning)
         if crate in shown and not said:
             yield f"docs/PROMISES.md does not say of which call {edit} is a wrong answer"
         tried += [(edit, crate, name) for name in re.findall(r"`(\w+)`", said[1])] if said else []
-    for call, _ in kept():
+    right = [call for call, _ in kept()]
+    for call in right:
         count = sum(1 for _, crate, name in tried if (crate, name) == (call.crate, call.name))
         if count < WRONG:
             yield f"docs/PROMISES.md has {count} wrong answers of {call.shown}, and not {WRONG}"
-    known = {(call.crate, call.name) for call in calls()}
+    known = {(call.crate, call.name): reached(call, right) for call in calls()}
     for edit, crate, name in tried:
         if (crate, name) not in known:
             yield f"docs/PROMISES.md has {edit} as a wrong answer of {name}, which {crate} does not show"
+        elif refusing(edit) and not refusing(edit) & known[crate, name]:
+            yield f"docs/PROMISES.md has {edit} as a wrong answer of {name}, and no proof of what {name} comes to refuses it"

@@ -13,8 +13,8 @@ CLAUSES = ("requires", "ensures", "ghost")
 # the words that begin a path within the crate
 WITHIN = ("crate", "self", "super")
 
-# a function: its module, name and line, each thing that it is given with its type, its answer's type, its clauses, and whether C may call it
-Function = collections.namedtuple("Function", "module name line given answer clauses exported")
+# a function: its module, name and line, each thing that it is given with its type, its answer's type, its clauses, whether C may call it, what it calls
+Function = collections.namedtuple("Function", "module name line given answer clauses exported called")
 # a struct or an enum, with the tokens that say what it holds
 Type = collections.namedtuple("Type", "module name line tokens")
 # a const, or another name for a type, with the tokens that say what it is
@@ -233,8 +233,9 @@ class Reader:
         while isinstance(self.tokens[self.place][1], tuple):
             clauses.append(self.next())
         self.next("{")
-        self.until("}")
-        return Function(module, name, line, given, answer, clauses, exported)
+        body = self.until("}")
+        called = {word for word, after in zip(body, body[1:]) if after == "(" and re.fullmatch(r"\w+", str(word))}
+        return Function(module, name, line, given, answer, clauses, exported, called)
 
 
 def depths(tokens):

@@ -164,9 +164,14 @@ one-check S r t p q = p ∙ sym q
 pub one-fill : OneFill
 one-fill mode old r t now after p q = (p .0 ∙ sym (q .0), p .1 ∙ sym (q .1))
 """,
-    "crates/probe/must-fail/another_number.edit": "file: src/lib.rt\nold: first(d)\nnew: first(k)\n",
-    "crates/probe/must-fail/everything_refused.edit": "file: src/refusals.rt\nold:     n\nnew:     8\n",
-    "crates/probe/must-fail/place_cleared.edit": "file: src/lib.rt\nold:     refusals::first(mode)\nnew:     place[0] = 0; refusals::first(mode)\n",
+    "crates/probe/must-fail/another_number.edit": "refused: proofs/check/Proof.antt returns\nfile: src/lib.rt\nold: first(d)\nnew: first(k)\n",
+    "crates/probe/must-fail/everything_refused.edit": "refused: proofs/refusals/first/Proof.antt returns\nfile: src/refusals.rt\nold:     n\nnew:     8\n",
+    "crates/probe/must-fail/place_cleared.edit": """\
+refused: proofs/fill/Proof.antt returns
+file: src/lib.rt
+old:     refusals::first(mode)
+new:     place[0] = 0; refusals::first(mode)
+""",
     "crates/listing/src/main.rt": "// The program.\nfn main() {\n}\n",
     "docs/PROMISES.md": """\
 # What is promised
