@@ -23,7 +23,7 @@ ONE = "| `check` | `crates/probe/specs/Promises.antt` `OneCheck` | `crates/probe
 SAID = "| sentence | statement | theorem |\n|---|---|---|\n"
 CLEARED = "| `probe/must-fail/place_cleared` | `fill`: the first entry cleared | the place afterwards |\n"
 TRIED = "| `probe/must-fail/another_number` | `check`: the depth for the degree | the number |\n"
-MORE = ("crates/probe/must-fail/more.edit", "file: src/lib.rt\nold: x\nnew: y\n")
+MORE = ("crates/probe/must-fail/more.edit", "refused: proofs/Promises.antt one-fill\nfile: src/lib.rt\nold: x\nnew: y\n")
 # a function that asks for something, and one of a type that does
 ASKING = "pub fn asking(n: u32) -> u32\n    requires { ⌜ FillPromise n ⌝ }\n{\n    n\n}\n"
 METHOD = "impl Checked {\n    pub fn asking(self) -> u32\n        requires { ⌜ FillPromise self ⌝ }\n    {\n        8\n    }\n}\n"
@@ -135,6 +135,13 @@ BREAKS = {
         ("docs/PROMISES.md does not give CheckPromise as the promise of probe::check", (PAGE, "`CheckPromise`", "`FillPromise`")),
         ("docs/PROMISES.md does not give CheckPromise as the promise of probe::check", (PAGE, PROMISED, "")),
     ],
+    faces.known_calls: [
+        *((f"docs/PROMISES.md has a row for the call {gone}, which nothing shows", (PAGE, row, row + row.replace("`check`", gone)))
+          for row in (PROMISED, ONE) for gone in ("`gone`", "gone")),
+        ("docs/PROMISES.md has a row for the call `first`, which nothing shows",
+         (PAGE, "\n| call | edits |\n|---|---|\n| `check` | two |\n| `first` | none |\n")),
+        ("docs/MORE.md has a row for the call `gone`, which nothing shows", ("docs/MORE.md", "| call | cases |\n|---|---|\n| `gone` | 8 |\n| all | 8 |\n")),
+    ],
     faces.one_outcome: [
         (f"docs/PROMISES.md has not one statement of {SPECS} that probe::check has one outcome", (PAGE, ONE, ""), (PAGE, SAID, SAID + ONE)),
         *((NOT_ONE, (SPECS, TWICE, text)) for text in (
@@ -153,7 +160,6 @@ BREAKS = {
         (NOT_ONE.replace("OneCheck", "OneFill"), (PAGE, ONE, ONE.replace("OneCheck", "OneFill").replace("one-check", "one-fill")), (PAGE, SAID, SAID + ONE)),
         (PLACES_NOT_ONE, (SPECS, PLACES, "→ r ≡ t")),
         (PLACES_NOT_ONE, (SPECS, PLACES, "→ (r ≡ t) × (now ≡ now)")),
-        ("docs/PROMISES.md has a statement on the call `more`, which nothing shows", (PAGE, ONE, ONE + ONE.replace("`check`", "`more`"))),
     ],
     faces.wrong_answers: [
         ("docs/PROMISES.md has 1 wrong answers of probe::check, and not 2", (PAGE, "`check`, `fill`: everything", "`fill`: everything")),
@@ -172,7 +178,7 @@ BREAKS = {
          (LIB, "    refusals::first(mode)", "    check(mode)"), (PAGE, "`check`, `fill`: everything", "`check`: everything"),
          MORE, (PAGE, TRIED, TRIED.replace("`check`:", "`check`, `fill`:") + "| `probe/must-fail/more` | `fill`: more refused | the number |\n")),
         *((f"docs/PROMISES.md has `probe/must-fail/more` {STRANGE.replace('CALL', 'fill')}", *edits,
-           (MORE[0], f"refused: proofs/refusals/{home}/Proof.antt returns\n{MORE[1]}"),
+           MORE, (MORE[0], "Promises.antt one-fill", f"refusals/{home}/Proof.antt returns"),
            (PAGE, TRIED, TRIED + "| `probe/must-fail/more` | `fill`: more refused | the number |\n"))
           for home, *edits in (("last",), ("last", (LIB, "    refusals::first(mode)", "    let last = refusals::first(mode);\n    last")), ("+last+next",))),
     ],
@@ -208,8 +214,8 @@ KEEPS = [
     ("a call in a module", (LIB, "// Fill a place.\npub fn fill(", "// Fill a place.\npub use more::fill;\nmod more {\npub fn fill("), (LIB, "}\n")),
     ("a call that is shown twice", (LIB, "pub mod more {\n    pub use super::fill;\n}\n")),
     ("a place that is lent for a time", (LIB, "fn fill(\n", "fn fill<'a>(\n"), (LIB, "&mut [u8]", "&'a mut [u8]")),
-    ("a wrong answer of a call that several functions refuse", MORE, (MORE[0], "file", "refused: proofs/refusals/+last+first/Proof.antt returns\nfile"),
+    ("a wrong answer of a call that several functions refuse", MORE, (MORE[0], "Promises.antt one-fill", "refusals/+last+first/Proof.antt returns"),
      (PAGE, TRIED, TRIED + "| `probe/must-fail/more` | `fill`: more refused | the number |\n")),
-    ("a wrong answer in a definition", MORE, (MORE[0], "file", "refused: proofs/Promises.antt one-fill\nfile"),
+    ("a wrong answer in a definition", MORE,
      (PAGE, TRIED, TRIED + "| `probe/must-fail/more` | `fill`: more refused | the number |\n")),
 ]

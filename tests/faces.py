@@ -8,6 +8,7 @@ and one that C may call. A call
   and docs/PROMISES.md gives that promise for it;
 - has a promise with the types of what it speaks of, that nobody chooses, and one clause, which speaks of each of these things;
 - has one outcome: docs/PROMISES.md gives for it a statement of specs/Promises.antt, and a theorem, that no two outcomes of these types satisfy the promise;
+- is shown, where a table of a document has its rows by call;
 - has two wrong answers at least: edits of its crate whose rows in docs/PROMISES.md begin with its name. Where proofs of functions refuse such an edit,
   one of them is that of the call itself, or of a function that it comes to and that is no other call.
 """
@@ -199,6 +200,16 @@ def promises_told():
             yield f"docs/PROMISES.md does not give {promise.name} as the promise of {call.shown}"
 
 
+def known_calls():
+    """Every table of a document that has its rows by call has them for calls that are shown, and a last one for all of them."""
+    names = {call.name for call in calls()}
+    for page in sorted(at("docs").glob("*.md")):
+        for columns, cells in tables(page.name):
+            found = re.match(r"`(\w+)`", cells[0])
+            if columns[0] == "call" and cells[0] != "all" and not (found and found[1] in names):
+                yield f"{named(page)} has a row for the call {cells[0]}, which nothing shows"
+
+
 # ---- one outcome
 
 def says_one(text, promise):
@@ -232,10 +243,6 @@ def one_outcome():
         others = [brought for use in uses(file) for _, brought in use.items] + [one.name for one in signatures(file)]
         if len(texts) != 1 or not says_one(texts[0], promise) or not plain or any("×" in name for name in others):
             yield f"{cited[0]} of crates/{call.crate}/specs/Promises.antt does not say that {promise.name} has one outcome"
-    names = {call.name for call in calls()}
-    for cells in rows:
-        if cells[0].strip("`") not in names:
-            yield f"docs/PROMISES.md has a statement on the call {cells[0]}, which nothing shows"
 
 
 # ---- wrong answers

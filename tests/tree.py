@@ -74,6 +74,8 @@ def edits():
     for name in sorted(name for name in tried if rows.count(name) != 1):
         yield f"docs/PROMISES.md has {rows.count(name)} rows for the edit {name}"
     for name in sorted(tried):
+        if not re.search(r"^refused: proofs/\S+ \S", text_of(at(f"crates/{name}.edit")), re.M):
+            yield f"{name} does not say which proof refuses it"
         for file in re.findall(r"^file: (?!src/|specs/)(.*)$", text_of(at(f"crates/{name}.edit")), re.M):
             yield f"{name} is an edit of {file}, which is neither code nor a definition"
 
@@ -278,7 +280,7 @@ def places():
 
 RULES = (
     citations, statements, edits, sentences, mentions, the_map, readable, disguises, axioms_and_holes, definitions_alone, law, lengths, imports,
-    faces.inner_crates, faces.shown_types, faces.contracts, faces.promises_told, faces.one_outcome, faces.wrong_answers, costs, places,
+    faces.inner_crates, faces.shown_types, faces.contracts, faces.promises_told, faces.known_calls, faces.one_outcome, faces.wrong_answers, costs, places,
 )
 
 

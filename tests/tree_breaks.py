@@ -30,7 +30,10 @@ BREAKS = {
     ],
     tree.edits: [
         ("docs/PAGE.md names the edit probe/must-fail/nothing, which is not in the tree", (PAGE, "`own-degree`", "`own-degree`; `probe/must-fail/nothing`")),
-        ("docs/PROMISES.md has 0 rows for the edit numbers/must-fail/third", ("crates/numbers/must-fail/third.edit", "file: src/lib.rt\nold: 2\nnew: 3\n")),
+        ("docs/PROMISES.md has 0 rows for the edit numbers/must-fail/third",
+         ("crates/numbers/must-fail/third.edit", "refused: proofs/half/Proof.antt returns\nfile: src/lib.rt\nold: 2\nnew: 3\n")),
+        ("probe/must-fail/place_cleared does not say which proof refuses it",
+         ("crates/probe/must-fail/place_cleared.edit", "refused: proofs/fill/Proof.antt returns\n", "")),
         ("docs/PROMISES.md has 2 rows for the edit probe/must-fail/place_cleared", (PROMISES, EDITED)),
         ("probe/must-fail/place_cleared is an edit of proofs/Promises.antt, which is neither code nor a definition",
          ("crates/probe/must-fail/place_cleared.edit", "src/lib.rt", "proofs/Promises.antt")),
