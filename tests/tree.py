@@ -4,7 +4,7 @@
   public where another file may bring it in. The must-fail edits that they name are there, and docs/PROMISES.md has a row for each.
 - Where a table of the first two has the columns 'statement' and 'theorem', the statement is closed, and the theorem is declared with
   just that statement as its type, brought in from the file of specs/. Every other statement of such a file has its row too.
-- docs/PAGE.md has in each row a sentence, a definition, and what stands behind it: something that is named.
+- docs/PAGE.md has in each row a sentence, a definition, and what stands behind it: files and must-fail edits that are there.
 - Every file of a crate that a document names stands in the tree, and docs/DESIGN.md names each file of src/, specs/ and proofs/.
 - A source means what its lines show: no comment stands in the midst of code, no character is unseen, no name is that of a library.
 - No axiom and no hole stands in a crate, and no function of C is declared in one. No definition and no contract rests on anything of a folder proofs/.
@@ -45,6 +45,7 @@ DECLARED = {
     ".py": r"^(?:def {}\(|{} = )",
 }
 EDIT = r"`(\w+/must-fail/\w+)`"
+MENTIONED = r"`((?:crates|tests|docs|bench|sheets|\.ci)/[^`*{ ]+)`"
 SENTENCES = ["sentence", "definition", "theorem, edit or test"]
 PLACES = re.compile(r"/(?:{0})/|(?:^|[^\w.*/-])/(?:{0})\b".format("|".join(("opt", "home", "root", "work", "tmp", "usr", "var", "mnt", "srv", "Users"))))
 
@@ -82,7 +83,7 @@ def edits():
 
 def mentions():
     for page in sorted(at("docs").glob("*.md")) + [at("README.md")]:
-        for file in re.findall(r"`((?:crates|tests|docs|bench|sheets|\.ci)/[^`*{ ]+)`", text_of(page)):
+        for file in re.findall(MENTIONED, text_of(page)):
             if not at(file).exists():
                 yield f"{named(page)} names {file}, which is not in the tree"
 
@@ -121,8 +122,15 @@ def sentences():
     for columns, cells in rows:
         if columns != SENTENCES or len(cells) != len(SENTENCES) or not all(cells):
             yield f"docs/PAGE.md: the row {' | '.join(cells)} has not {', '.join(SENTENCES)}"
-        elif not re.search(r"`[^`]+/[^`]+`", cells[-1]):
+            continue
+        behind = re.findall(r"`[^`]*/[^`]*`", cells[-1])
+        if not behind:
             yield f"docs/PAGE.md names nothing that stands behind {cells[0]}"
+        # an edit that is missing is told of by the rule for edits, and a file of a known folder by that for what documents name
+        for name in [name for name in behind if not re.fullmatch(EDIT, name)]:
+            path = at(name.strip("`")).resolve()
+            if not (path.is_file() and path.is_relative_to(sources.ROOT)) and (path.exists() or not re.fullmatch(MENTIONED, name)):
+                yield f"docs/PAGE.md has {name} behind {cells[0]}, which is neither a file nor an edit"
 
 
 # ---- statements

@@ -42,9 +42,12 @@ BREAKS = {
         ("docs/PAGE.md has no row", (PAGE, '| "a degree" | `crates/page/specs/Sheet.antt` `Sheet` | `crates/page/proofs/Facts.antt` `own-degree` |',
                                      "\n`crates/page/specs/Sheet.antt` `Sheet`")),
         ('docs/PAGE.md names nothing that stands behind "a degree"', (PAGE, "`crates/page/proofs/Facts.antt` `own-degree`", "it is plain")),
+        *((f'docs/PAGE.md has {name} behind "a degree", which is neither a file nor an edit', (PAGE, "`crates/page/proofs/Facts.antt` `own-degree`", name))
+          for name in ("`no/such`", "`crates/page/proofs/`", "`docs/PAGE.md and/more`", "`/`", "`crates/../../.`")),
         ('docs/PAGE.md: the row "name" |  | `docs/DESIGN.md` has not sentence, definition, theorem, edit or test', (PAGE, '| "name" | | `docs/DESIGN.md` |\n')),
     ],
     tree.mentions: [
+        ("docs/PAGE.md names tests/more.py, which is not in the tree", (PAGE, "`own-degree` |", "`own-degree`; `tests/more.py` |")),
         ("README.md names docs/MORE.md, which is not in the tree", ("README.md", "More is in `docs/MORE.md`.\n")),
         ("docs/DESIGN.md names bench/more, which is not in the tree", (DESIGN, "Timed by `bench/more`.\n")),
     ],
