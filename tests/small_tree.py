@@ -205,6 +205,13 @@ new:     place[0] = 0; refusals::first(mode)
     "docs/DESIGN.md": """\
 # The map
 
+| crate | holds |
+|---|---|
+| `numbers`, `verdicts` | numbers; verdicts |
+| `page` | the page |
+| `probe` | the calls |
+| `listing` | the program |
+
 ## `page`
 
 | file | what it is for |

@@ -46,6 +46,11 @@ def crates():
     return sorted(path.name for path in ROOT.glob("crates/*") if path.is_dir())
 
 
+def listed():
+    """The crates of crates.txt, and what each rests on."""
+    return {crate: below.split() for crate, below in re.findall(r"^(\w+):(.*)$", text_of(at("crates.txt")), re.M)}
+
+
 def text_of(path):
     return path.read_bytes().decode()
 

@@ -5,7 +5,8 @@
 - Where a table of the first two has the columns 'statement' and 'theorem', the statement is closed, and the theorem is declared with
   just that statement as its type, brought in from the file of specs/. Every other statement of such a file has its row too.
 - docs/PAGE.md has in each row a sentence, a definition, and what stands behind it: files and must-fail edits that are there.
-- Every file of a crate that a document names stands in the tree, and docs/DESIGN.md names each file of src/, specs/ and proofs/.
+- Every file of a crate that a document names stands in the tree, and docs/DESIGN.md names each file of src/, specs/ and proofs/, and
+  each crate.
 - A source means what its lines show: no comment stands in the midst of code, no character is unseen, no name is that of a library.
 - No axiom and no hole stands in a crate, and no function of C is declared in one. No definition and no contract rests on anything of a folder proofs/.
 - What must be read for the law, the definitions of document 01 and what they name, rests on nothing else of the tree, and has no function.
@@ -113,6 +114,14 @@ def the_map():
             yield f"docs/DESIGN.md does not name {file} of crates/{crate}/{folder}"
     for crate, folder, file in sorted(name for name in found - files if all(name)):
         yield f"docs/DESIGN.md names {file} of crates/{crate}/{folder}, which is not there"
+
+
+def crate_rows():
+    """The table of crates on the map has each crate that is listed, and no other."""
+    rows = [name for columns, cells in tables("DESIGN.md") if columns[0] == "crate" for name in re.findall(r"`([^`]+)`", cells[0])]
+    for name in sorted({*rows, *sources.listed()}):
+        if rows.count(name) != (name in sources.listed()):
+            yield f"docs/DESIGN.md has the crate {name} {rows.count(name)} times in its table, and crates.txt {int(name in sources.listed())} times"
 
 
 def sentences():
@@ -226,8 +235,8 @@ def definitions_alone():
 
 def law():
     """Nothing but the law stands below it, and no code."""
-    for crate, below in re.findall(r"^(\w+):(.*)$", text_of(at("crates.txt")), re.M):
-        for name in below.split() if crate in LAW else ():
+    for crate, below in sources.listed().items():
+        for name in below if crate in LAW else ():
             if name not in LAW:
                 yield f"crates.txt has {crate}, which is of the law, rest on {name}"
     for crate, root in faces.roots().items():
@@ -287,7 +296,8 @@ def places():
 
 
 RULES = (
-    citations, statements, edits, sentences, mentions, the_map, readable, disguises, axioms_and_holes, definitions_alone, law, lengths, imports,
+    citations, statements, edits, sentences, mentions, the_map, crate_rows, readable, disguises, axioms_and_holes, definitions_alone, law,
+    lengths, imports,
     faces.inner_crates, faces.shown_types, faces.contracts, faces.promises_told, faces.known_calls, faces.one_outcome, faces.wrong_answers, costs, places,
 )
 

@@ -56,6 +56,12 @@ BREAKS = {
         ("docs/DESIGN.md does not name Deeper of crates/page/specs", ("crates/page/specs/more/Deeper.antt", "-- More.\n")),
         ("docs/DESIGN.md names Lost of crates/page/proofs, which is not there", (DESIGN, "`proofs/Facts` |", "`proofs/Facts`, `Lost` |")),
     ],
+    tree.crate_rows: [
+        ("docs/DESIGN.md has the crate more 0 times in its table, and crates.txt 1 times", ("crates.txt", "listing:", "more: page\nlisting:")),
+        ("docs/DESIGN.md has the crate page 0 times in its table, and crates.txt 1 times", (DESIGN, "| `page` | the page |\n", "")),
+        ("docs/DESIGN.md has the crate gone 1 times in its table, and crates.txt 0 times", (DESIGN, "| `page` |", "| `page`, `gone` |")),
+        ("docs/DESIGN.md has the crate probe 2 times in its table, and crates.txt 1 times", (DESIGN, "| `page` |", "| `page`, `probe` |")),
+    ],
 
     # ---- statements and theorems
     tree.statements: [
