@@ -10,6 +10,7 @@
 - A source means what its lines show: no comment stands in the midst of code, no character is unseen, no name is that of a library.
 - No axiom and no hole stands in a crate, and no function of C is declared in one. No definition and no contract rests on anything of a folder proofs/.
 - What must be read for the law, the definitions of document 01 and what they name, rests on nothing else of the tree, and has no function.
+- No library rests on the kit's crates that call functions of C: programs alone do.
 - No file of a crate, of tests/ or of bench/ is over 400 lines, and no source brings in a name that it does not use.
 - Inner crates say that they are, and what other libraries show to the outside is held to its promises: tests/faces.py.
 - docs/BENCHMARKS.md counts the lines and the edits of each crate as bench/cost does.
@@ -33,6 +34,8 @@ from sources import KINDS, NAME, at, brings, code_of, document, named, names_in,
 LONGEST = 400
 # the left column of docs/DESIGN.md: document 01 as definitions, and what they rest on
 LAW = ("algebra", "forms", "verdicts", "page")
+# the kit's crates that call functions of C
+OUTSIDE = ("io", "libc", "os")
 # the documents that cite by file and name
 CITING = ("PROMISES.md", "THEORY.md", "PAGE.md")
 # those that give a theorem for each statement
@@ -233,6 +236,14 @@ def definitions_alone():
                 yield f"{named(path)}:{number} rests on something of proofs/"
 
 
+def worldless():
+    """Nothing of the world outside stands below a library: docs/ASSUMPTIONS.md says that its calls rest on no function of C."""
+    for crate, below in sources.listed().items():
+        for name in OUTSIDE if not at(f"crates/{crate}/src/main.rt").is_file() or at(f"crates/{crate}/src/lib.rt").is_file() else ():
+            if name in below:
+                yield f"crates.txt has {crate}, which is no program, rest on {name}"
+
+
 def law():
     """Nothing but the law stands below it, and no code."""
     for crate, below in sources.listed().items():
@@ -297,7 +308,7 @@ def places():
 
 RULES = (
     citations, statements, edits, sentences, mentions, the_map, crate_rows, readable, disguises, axioms_and_holes, definitions_alone, law,
-    lengths, imports,
+    worldless, lengths, imports,
     faces.inner_crates, faces.shown_types, faces.contracts, faces.promises_told, faces.known_calls, faces.one_outcome, faces.wrong_answers, costs, places,
 )
 

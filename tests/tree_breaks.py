@@ -140,13 +140,22 @@ BREAKS = {
         (f"{NUMBERS}:11 {RESTS}", (NUMBERS, "⌜ r ≡ n / 2 ⌝", "⌜ Rattle.walk.proofs.Facts.x r ≡ n / 2 ⌝")),
     ],
 
-    # ---- lengths and imports
+    # ---- what crates rest on
     tree.law: [
         ("crates.txt has page, which is of the law, rest on numbers", ("crates.txt", "page:\n", "page: numbers\n")),
         ("page is of the law and has the function first",
          ("crates/page/src/lib.rt", "No code: the page as definitions.", "An inner crate: what its functions require, every caller proves."),
          ("crates/page/src/lib.rt", "fn first() -> u64 {\n    1\n}\n")),
     ],
+    tree.worldless: [
+        *((f"crates.txt has probe, which is no program, rest on {name}", ("crates.txt", "probe: page numbers verdicts", f"probe: page numbers verdicts {name}"))
+          for name in ("io", "libc", "os")),
+        ("crates.txt has numbers, which is no program, rest on io", ("crates.txt", "numbers:\n", "numbers: io\n")),
+        ("crates.txt has listing, which is no program, rest on io",
+         ("crates.txt", "listing: probe", "listing: probe io"), ("crates/listing/src/lib.rt", "pub use probe::fill;\n")),
+    ],
+
+    # ---- lengths and imports
     tree.lengths: [
         (f"{PROVED} has 401 lines, over 400", (PROVED, "-- more\n" * 395)),
         ("tests/more.py has 401 lines, over 400", ("tests/more.py", "# more\n" * 401)),
@@ -174,6 +183,7 @@ BREAKS = {
 
 # what may be done: what it is, and the edits
 KEEPS = [
+    ("a program that reads and writes", ("crates.txt", "listing: probe", "listing: probe io libc os")),
     ("a definition that takes something", (SPECS, "\nabbrev pub Degree : Sheet → Type 0\nDegree S = S .d ≡ 0\n")),
     ("a name that needs « »", (NUMBERS, "\nfn same(at_most: u32) -> u32\n    ensures { λ r. ⌜ r ≡ «at_most» ⌝ }\n{\n    at_most\n}\n")),
     ("a text with the mark of a comment", (NUMBERS, '\nfn mark() -> [u8; 2] {\n    *b"//"\n}\n')),
