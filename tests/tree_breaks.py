@@ -7,6 +7,7 @@ import tree
 NUMBERS, SPECS, PROVED = "crates/numbers/src/lib.rt", "crates/page/specs/Facts.antt", "crates/page/proofs/Facts.antt"
 PROMISES, PAGE, DESIGN, COSTS = "docs/PROMISES.md", "docs/PAGE.md", "docs/DESIGN.md", "docs/BENCHMARKS.md"
 UPDATE = "bench/cost --update"
+MACHINE = ("opt", "home", "root", "work", "tmp", "usr", "var", "mnt", "srv", "Users")
 # what the sources have
 SHEET = "use Rattle.page.specs.Sheet.{Sheet}\n"
 CLOSED = "abbrev pub OwnDegree : Type 0\n"
@@ -105,6 +106,8 @@ BREAKS = {
     tree.disguises: [
         (f"{PROVED}:3 gives something else the name of the library Rattle.page.specs",
          (PROVED, BROUGHT, f"use Rattle.numbers as Rattle.page.specs\n{BROUGHT}"), (PROVED, "\nmore = Rattle.page.specs.x\n")),
+        (f"{PROVED}:3 gives something else the name of the library Rattle.more",
+         (PROVED, BROUGHT, f"use mathlib.Core.Path as Rattle.more\n{BROUGHT}"), (PROVED, "\nmore = Rattle.more.x\n")),
         ("crates/page/proofs/Lib.antt:2 gives something else the name of the library mathlib",
          ("crates/page/proofs/Lib.antt", "pub mod mathlib\nuse mathlib.Core.Path.{refl}\nx = refl\n")),
     ],
@@ -176,8 +179,10 @@ BREAKS = {
     ],
     tree.places: [
         ("sheets is tracked, and is no file of the tree", ("LINK", "sheets")),
-        ("README.md:2 names a place on a machine", ("README.md", "It was made in /" + "home/somebody.\n")),
-        ("tests/more.py:1 names a place on a machine", ("tests/more.py", 'ROOT = "/' + 'tmp"\n')),
+        # in a path, and at its end
+        *(("README.md:2 names a place on a machine", ("README.md", f"It was made in /{name}/somebody.\n")) for name in MACHINE),
+        *(("tests/more.py:1 names a place on a machine", ("tests/more.py", f'ROOT = "/{name}"\n')) for name in MACHINE),
+        ("README.md:2 names a place on a machine", ("README.md", f"It was made in C:/{MACHINE[0]}/somebody.\n")),
     ],
 }
 

@@ -1,8 +1,10 @@
 """The rules of tests/tree.py, each broken: a small tree that keeps all of them is edited, and the edit's one fault is told, in its words, and no other.
 
 tests/small_tree.py has the tree, tests/tree_breaks.py and tests/face_breaks.py have the edits, and some that break nothing. A rule that no edit breaks is
-a fault too.
+a fault too; and the check ends with 1 where there is a fault, and with 0 where there is none.
 """
+import contextlib
+import io
 import pathlib
 import subprocess
 import sys
@@ -67,6 +69,14 @@ def told(rule, edits):
     return faults()
 
 
+def status(*edits):
+    """What the check of the tree ends with after some edits: its status, and what it says."""
+    for change in edits:
+        edit(*change)
+    with contextlib.redirect_stdout(io.StringIO()) as said:
+        return tree.main(), said.getvalue().splitlines()
+
+
 def main():
     wrong, rules = [], {**tree_breaks.BREAKS, **face_breaks.BREAKS}
     breaks = [(rule, *one) for rule, several in rules.items() for one in several]
@@ -89,6 +99,13 @@ def main():
             restore(whole)
         for what, *edits in keeps:
             wrong += [f"{what}: {one.__name__}: {fault}" for one, fault in told(None, edits)]
+            restore(whole)
+        files = len(sources.sources())
+        ends = [((), (0, [f"tree: 0 faults in {files} source files"])),
+                ([("docs/THEORY.md", "`half`", "a half")], (1, ["docs/THEORY.md cites nothing", f"tree: 1 faults in {files} source files"]))]
+        for edits, end in ends:
+            found = status(*edits)
+            wrong += [f"{edits}: the check should end with {end}, and ends with {found}"] if found != end else []
             restore(whole)
         wrong += [f"after all edits: {rule.__name__}: {fault}" for rule, fault in faults()]
     wrong += [f"no edit breaks the rule {rule.__name__}" for rule in tree.RULES if not rules.get(rule)]
