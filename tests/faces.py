@@ -54,8 +54,11 @@ def roots():
 
 def public():
     """The libraries that are called from outside, and what each shows."""
-    found = roots()
-    faces = rattle.Faces({crate: root for crate, root in found.items() if root})
+    yield from shown_by(rattle.Faces({crate: root for crate, root in roots().items() if root}))
+
+
+def shown_by(faces):
+    """Those among the crates that were read."""
     for crate in faces.roots:
         if crate not in INNER and faces.roots[crate].file.name == "lib.rt":
             yield crate, faces.face(crate)

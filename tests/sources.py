@@ -87,9 +87,13 @@ def oddities(path):
 
 def uses(path):
     """What a file of antt brings in by `use`, and one of Rattle by `ghost use`."""
-    text = "\n".join(code_of(path))
-    for found in (USE if path.suffix == ".antt" else GHOST_USE).finditer(text):
-        marks, home, items, name = ("", *found.groups()) if path.suffix == ".rt" else found.groups()
+    yield from uses_in("\n".join(code_of(path)), path.suffix)
+
+
+def uses_in(text, suffix):
+    """The same of a text without comments, by the ending of its file."""
+    for found in (USE if suffix == ".antt" else GHOST_USE).finditer(text):
+        marks, home, items, name = ("", *found.groups()) if suffix == ".rt" else found.groups()
         if items is None:
             brought = [(None, name or home.split(".")[-1])]
         else:
