@@ -1,12 +1,14 @@
 """Which declaration of an earlier tree is which of the present one, for bench/moved.
 
 Texts are compared word by word. What has the same text in another file has moved; what has it but for its own name, in the same file, was renamed. What
-stands in a Proof.antt is about one function, and follows that.
+stands in a Proof.antt is about one function, and follows that. A text is the same only where its names stand for the same: for a declaration that has the
+same place, or that moved or was renamed, and for what comes from elsewhere the module and the name there.
 """
 import collections
 import dataclasses
 import re
 
+from calls import Code, code_of
 from declared import module_of, read
 
 
@@ -19,9 +21,20 @@ class Tree:
 
     def __init__(self, texts):
         self.texts, self.declared, self.known = texts, [], {}
+        code = Code(texts)
         for path, text in texts.items():
-            found, self.known[path] = read(path, text)
+            found, self.known[path] = read(path, text, code)
             self.declared += found
+        # what is passed on by `pub use`, and what it stands for
+        self.passed = {(module_of(one.path), one.name, ""): next(iter(one.means[-1])) for one in self.declared if one.passes}
+
+    def origin(self, meant):
+        """Where a name comes from that is passed on."""
+        met = set()
+        while meant in self.passed and meant not in met:
+            met.add(meant)
+            meant = self.passed[meant]
+        return meant
 
     def rename(self, files):
         """Puts files under other names."""
@@ -80,8 +93,20 @@ def text_under(crates, path, texts):
 # ---- declarations
 def name_pairs(a, b):
     """The names of two declarations, and of operators the parts: `_when_` and `_if_`, `when` and `if`."""
-    operators = "_" in (a.name[0], a.name[-1])
-    return {(a.name, b.name), *(zip(a.name.split("_"), b.name.split("_")) if operators else ())}
+    sign = "_" if "_" in (a.name[0], a.name[-1]) else "::"
+    return {(a.name, b.name), *zip(a.name.split(sign), b.name.split(sign))}
+
+
+def standing(one):
+    """What the names that something declares stand for, elsewhere and, where it is code, in code: module and name."""
+    if one.kind == "contract":
+        return []
+    modules = [*([module_of(one.home)] if one.kind != "function" else ()), *([code_of(one.home)] if one.home.endswith(".rt") else ())]
+    return [(module, name) for module in modules for name in (one.name, *one.members)]
+
+
+def proof_of(function):
+    return re.sub(r"(?:/lib|/main)?\.rt$", f"/{function.name}/Proof.antt", function.home.replace("/src/", "/proofs/", 1))
 
 
 def may_move(a, b):
@@ -112,6 +137,11 @@ class Comparison:
         before.rename(proofs)
         self.pair("proof")
         self.pair_contracts()
+        self.names = {found for tree in (before, now) for one in tree.declared for found in standing(dataclasses.replace(one, members=()))}
+        self.became = {pair for a, b in self.pairs for pair in zip(standing(a), standing(b))}
+        folders = [tuple(module_of(proof_of(one)).rpartition(".")[0] for one in pair) for pair in self.pairs if pair[0].kind == "function"]
+        # modules, the earlier one and the present one: files that have another name, and what is made for each function beside its proof
+        self.modules = {**{module_of(a): module_of(b) for a, b in self.files.items()}, **{old: new for old, new in folders if old != new}}
 
     def difference(self, a, b):
         """How two texts differ: by 'nothing', by 'names' that were renamed, by 'variables', or None for more. In place of a word there must always be the same
@@ -128,11 +158,14 @@ class Comparison:
         words -= {(old, new) for old, new in words & (self.renamed | name_pairs(a, b)) if old in known[0] and new in known[1]}
         if not words:
             return "names"
-        own = a.variables() - known[0].keys(), b.variables() - known[1].keys()
+        if a.kind != "contract" and a.code:
+            return None
+        own = a.variables() - known[0], b.variables() - known[1]
         return "variables" if all(old in own[0] and new in own[1] for old, new in words) else None
 
     def pair(self, *kinds):
-        """Pairs what stands in one place under one name. Then, by the rules and until no more is found, what has the same text."""
+        """Pairs what stands in one place under one name. Then, by the rules and until no more is found, what has the same text. What only passes a name on is
+        renamed where that is."""
         old, new = ({one.place: one for one in tree.declared if one.kind in kinds} for tree in (self.before, self.now))
         self.pairs += [(old[place], new[place]) for place in old if place in new]
         gone = collections.defaultdict(list)
@@ -145,7 +178,8 @@ class Comparison:
             for rule in RULES:
                 for b in list(fresh):
                     alike = gone[b.kind, len(b.words)]
-                    a = next((a for a in alike if rule(a, b) and self.difference(a, b)), None)
+                    others = self.renamed | {(b.name, b.name)}
+                    a = next((a for a in alike if rule(a, b) and self.difference(a, b) and (not b.passes or (a.name, b.name) in others)), None)
                     if a:
                         alike.remove(a)
                         fresh.remove(b)
@@ -156,7 +190,7 @@ class Comparison:
         """The files with the proof of a function that has another place now."""
         for a, b in self.pairs:
             if a.kind == "function":
-                old, new = (re.sub(r"(?:/lib|/main)?\.rt$", f"/{one.name}/Proof.antt", one.home.replace("/src/", "/proofs/", 1)) for one in (a, b))
+                old, new = proof_of(a), proof_of(b)
                 if old in self.before.texts.keys() - self.now.texts.keys() and new in self.now.texts.keys() - self.before.texts.keys():
                     yield old, new
 
@@ -171,7 +205,7 @@ class Comparison:
         """What became of each declaration: a sign, the earlier one or None, the present one or None, and how they differ if they do not count as different.
         What changed on its way to another crate was removed from the one and added to the other."""
         for a, b in self.pairs:
-            difference = self.difference(a, b)
+            difference = self.same_names(a, b) and self.difference(a, b)
             if difference:
                 yield "→" if a.crate != b.crate else "=" if a.place == b.place else "↔", a, b, difference
             elif a.crate == b.crate:
@@ -188,10 +222,19 @@ class Comparison:
             if not self.difference(*(dataclasses.replace(one, words=sum(one.within, ())) for one in (a, b))):
                 yield b
 
-    def from_other_files(self, alike):
-        """Of what a reader must believe, what takes a name from another file than before, though nothing moved from there to there."""
-        went = {(module_of(a.home), module_of(b.path)) for a, b in alike if a.home != b.path}
-        for a, b in [(a, b) for a, b in alike if a.kind == "contract" or "/specs/" in a.path]:
-            sources = {(self.before.known[a.path].get(old), self.now.known[b.path].get(new)) for old, new in zip(a.words, b.words)}
-            if any(old and new and old != new for old, new in sources - went):
-                yield b
+    def same_names(self, a, b):
+        """Whether the names in two texts, word by word, stand for the same. A variable may have the name of something that is declared in one of the trees."""
+        for word, old, new in {found for found in zip(a.words + sum(a.within, ()), a.means, b.means) if found[1] != found[2]}:
+            variable = not (old and new) and word in a.variables() & b.variables() and all(meant[:2] in self.names for meant in old | new)
+            pairs = {(m, n) for m in old for n in new if self.same(m, n)}
+            if not variable and ({m for m, _ in pairs}, {n for _, n in pairs}) != (old, new):
+                return False
+        return True
+
+    def same(self, old, new):
+        """Whether two names stand for the same, by where they are brought in from or by where they come from in the end."""
+        for m, n in (old, new), (self.before.origin(old), self.now.origin(new)):
+            module = next((m[0].replace(a, b, 1) for a, b in self.modules.items() if f"{m[0]}.".startswith(f"{a}.")), m[0])
+            if n in (m, (module, *m[1:])) or (m[:2], n[:2]) in self.became and m[2] == n[2]:
+                return True
+        return False

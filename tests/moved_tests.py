@@ -10,176 +10,15 @@ import subprocess
 import sys
 import tempfile
 
+sys.dont_write_bytecode = True  # nothing is left in the tree
+from moved_tree import AREA, BASE, FACTS, INNER, LIB, MAIN, PROMISES, PROOF, PROOFS, ROOM, SHOWN, SIZES, edited, exchanged
+
 ROOT = pathlib.Path(__file__).resolve().parent.parent
-SCRIPT = "bench/moved", "bench/paired.py", "bench/declared.py", "tests/sources.py"
+SCRIPT = *(f"bench/{name}" for name in ("moved", "paired.py", "declared.py", "calls.py", "cost")), *(f"tests/{name}.py" for name in ("sources", "rattle", "faces"))
 
-SIZES, FACTS, PROOFS = "crates/page/specs/Sizes.antt", "crates/page/specs/Facts.antt", "crates/page/proofs/Sizes.antt"
-PROMISES, ROOM, LIB = "crates/call/specs/Promises.antt", "crates/call/specs/Room.antt", "crates/call/src/lib.rt"
-INNER, PROOF = "crates/call/src/inner.rt", "crates/call/proofs/inner/double/Proof.antt"
-MAIN, OWN = "crates/program/src/main.rt", "crates/page/src/lib.rt"
-AREA = """\
-unfoldable pub area : ℕ → ℕ
-area zero = zero
-area (suc n) = suc (area n)
-
-"""
-BASE = {
-    "crates.txt": "page:\ncall: page\nprogram: call\n",
-    SIZES: f"""\
--- Sizes of things.
-use Prim.Native.Nat.{{ℕ, zero, suc, _+_}}
-
--- a size
-pub record Size : Type 0 where
-  pub wide high : ℕ
-
-pub data Side : Type 0 where
-  left right : Side
-
--- one beside the other
-infix 3 _beside_
-abbrev pub _beside_ : Size → Size → Size
-a beside b = record {{ wide = a .wide + b .wide; high = a .high }}
-
-{AREA}abbrev pub from-left : Side → ℕ
-from-left left = 0
-from-left right = 1
-
-abbrev pub if-so : Dec → ℕ
-if-so yes = 1
-if-so no = 0
-
--- a kind of thing, and no statement
-abbrev pub Point : Type 0
-Point = ℕ → ℕ
-""",
-    FACTS: """\
--- What is said of sizes.
-use mathlib.Core.Path.{_≡_}
-use Prim.Native.Nat.{ℕ, _+_, _≤_}
-use Rattle.page.specs.Sizes.{area}
-
-abbrev pub Same : Type 0
-Same = (a b : ℕ) → area (a + b) ≡ area (b + a)
-
-abbrev pub Small : ℕ → Type 0
-Small n = area n ≤ 8
-""",
-    PROOFS: """\
--- It is so.
-use mathlib.Core.Path.{_≡_, refl}
-use Prim.Native.Nat.{ℕ, _≤_}
-use Rattle.page.specs.Sizes.{area}
-use Rattle.page.specs.Facts.{Same, Small}
-
-module _ (n : ℕ) where
-  kept : area n ≡ n
-  unfolding area
-  kept = go n
-    where
-      go : (m : ℕ) → area m ≡ m
-      go m = refl
-
-  pub small : n ≤ 8 → Small n
-  small h = h
-
-pub same : Same
-same a b = refl
-""",
-    PROMISES: """\
--- What is promised.
-use mathlib.Core.Path.{_≡_}
-use Prim.Native.Nat.{ℕ, _+_}
-use Rattle.call.specs.declared.Answer.{Answer}
-use Rattle.call.specs.declared.Answer.the-variants as Answer
-
-abbrev pub TwicePromise : ℕ → Answer → Type 0
-TwicePromise n r = r ≡ Answer.Number (n + n)
-""",
-    ROOM: """\
-use Prim.Native.Nat.{ℕ, zero, suc}
-
-abbrev pub room : ℕ
-room = 8
-""",
-    LIB: """\
-// The call.
-mod inner;
-ghost use Rattle.call.specs.Promises.{TwicePromise};
-
-// An answer.
-pub enum Answer {
-    Number(u32),
-    Nothing,
-}
-
-// Twice a number.
-pub fn twice(n: u32) -> Answer
-    ensures { λ r. ⌜ TwicePromise n r ⌝ }
-{
-    Answer::Number(inner::double(n))
-}
-""",
-    INNER: """\
-// What the call is made of.
-ghost use Prim.Native.Nat.{_≤_};
-ghost use Rattle.call.specs.Room.{room};
-
-pub fn double(n: u32) -> u32
-    requires { ⌜ n ≤ room ⌝ }
-{
-    2 * n // no more
-}
-""",
-    PROOF: """\
-use Rattle.call.proofs.inner.double.Tie as tie
-
-returns : tie.Need-returns
-returns c = search needs
-
-pub double-spec : statement
-double-spec = tie.close returns
-""",
-    MAIN: """\
-fn main() {
-    let area = 3;
-    call::twice(area);
-}
-""",
-    # a module that has the name of a crate
-    OWN: """\
-mod call;
-
-fn first() -> u32 {
-    call::one()
-}
-""",
-    "crates/page/src/call.rt": """\
-pub fn one() -> u32 {
-    1
-}
-""",
-}
 # the row of a tree in which nothing changed
-ALONE = {"definitions": "=10", "statements": "=2", "contracts": "=2", "proofs": "=5", "functions": "=5", "lines": "+0 −0"}
+ALONE = {"definitions": "=11", "statements": "=2", "contracts": "=4", "proofs": "=5", "functions": "=7", "lines": "+0 −0"}
 NO_NAME = ["no definition, promise or statement is other than it was, nor the contract of a public call"]
-
-
-def edited(*edits):
-    """The sources with some words exchanged: file, old, new."""
-    texts = dict(BASE)
-    for file, old, new in edits:
-        assert old in texts[file], f"{file} has no {old}"
-        texts[file] = texts[file].replace(old, new)
-    return texts
-
-
-def exchanged(*words):
-    """The sources with some words exchanged in all files and in their names."""
-    texts = BASE
-    for old, new in words:
-        texts = {file.replace(old, new): text.replace(old, new) for file, text in texts.items()}
-    return texts
 
 
 def cases():
@@ -195,52 +34,55 @@ def cases():
         (FACTS, "abbrev pub Small", "abbrev pub None : Type 0\nNone = Small 0\n\nabbrev pub Small"),
         (PROOFS, "pub same :", "pub none : None\nnone = refl\n\npub same :"),
         (LIB, "// Twice", "pub const MOST: u32 = 8;\n\npub fn once(n: u32) -> u32 {\n    n\n}\n\n// Twice"),
-    ), {"definitions": "+2 =10", "statements": "+1 =2", "proofs": "+1 =5", "functions": "+1 =5", "lines": "+10 −0"}, [
-        "- `page`, definitions: added `large`", "- `page`, statements: added `None`", "- `call`, definitions: added `MOST`"]
+    ), {"definitions": "+2 =11", "statements": "+1 =2", "contracts": "+1 =4", "proofs": "+1 =5", "functions": "+1 =7", "lines": "+10 −0"}, [
+        "- `page`, definitions: added `large`", "- `page`, statements: added `None`", "- `call`, definitions: added `MOST`",
+        "- `call`, contracts of public calls: added `once`"]
 
     yield "changed", edited(
         (SIZES, "(suc n) = suc", "(suc n) ="), (FACTS, "(b + a)", "(a + a)"), (PROMISES, "(n + n)", "n"), (PROOFS, "go m = refl", "go m = same")
-    ), {"definitions": "~1 =9", "statements": "~2", "proofs": "~1 =4", "lines": "+4 −4"}, [
+    ), {"definitions": "~1 =10", "statements": "~2", "proofs": "~1 =4", "lines": "+4 −4"}, [
         "- `page`, definitions: changed `area`", "- `page`, statements: changed `Same`", "- `call`, promises: changed `TwicePromise`"]
     yield "changed by an infix line, a field, cases", edited(
         (SIZES, "infix 3", "infix 4"), (SIZES, "wide high", "wide tall"), (SIZES, "left right :", "right left :"), (LIB, "Nothing", "Nowhere")
-    ), {"definitions": "~4 =6", "lines": "+4 −4"}, [
+    ), {"definitions": "~4 =7", "lines": "+4 −4"}, [
         "- `page`, definitions: changed `Size`, `Side`, `_beside_`", "- `call`, definitions: changed `Answer`"]
-    yield "a body alone", edited((LIB, "inner::double(n)", "inner::double(n + 0)")), {"functions": "~1 =4", "lines": "+1 −1"}, NO_NAME
+    yield "a body alone", edited((LIB, "inner::double(n)", "inner::double(n + 0)")), {"functions": "~1 =6", "lines": "+1 −1"}, NO_NAME
     yield "contracts alone", edited(
         (LIB, "TwicePromise n r", "TwicePromise r n"), (INNER, "n ≤ room", "room ≤ n")
-    ), {"contracts": "~2", "lines": "+2 −2"}, ["- `call`, contracts of public calls: changed `twice`"]
+    ), {"contracts": "~2 =2", "lines": "+2 −2"}, ["- `call`, contracts of public calls: changed `twice`"]
 
     yield "removed", edited((SIZES, AREA, ""), (PROOFS, "pub same : Same\nsame a b = refl\n", "")), {
-        "definitions": "−1 =9", "proofs": "−1 =4", "lines": "+0 −5"}, ["- `page`, definitions: removed `area`"]
-    yield "a contract removed", edited((LIB, "    ensures { λ r. ⌜ TwicePromise n r ⌝ }\n", "")), {
-        "contracts": "−1 =1", "lines": "+0 −1"}, ["- `call`, contracts of public calls: removed `twice`"]
+        "definitions": "−1 =10", "proofs": "−1 =4", "lines": "+0 −5"}, ["- `page`, definitions: removed `area`"]
+    yield "contracts removed", edited((LIB, "    ensures { λ r. ⌜ TwicePromise n r ⌝ }\n", ""), (INNER, "    requires { ⌜ n ≤ room ⌝ }\n", "")), {
+        "contracts": "~1 −1 =2", "lines": "+0 −2"}, ["- `call`, contracts of public calls: changed `twice`"]
 
-    yield "moved", edited((SIZES, AREA, ""), (FACTS, "specs.Sizes", "specs.Area"), (PROOFS, "specs.Sizes", "specs.Area")) | {
-        "crates/page/specs/Area.antt": AREA}, {
-        "definitions": "↔1 =9", "lines": "+5 −5"}, ["- `page`, definitions: moved `area`: page/specs/Sizes → page/specs/Area"]
+    yield "moved", edited((SIZES, AREA, ""), (FACTS, "specs.Sizes.{area}", "specs.Area.{area}"), (PROOFS, "specs.Sizes", "specs.Area")) | {
+        "crates/page/specs/Area.antt": f"use Prim.Native.Nat.{{ℕ, zero, suc}}\n\n{AREA}"}, {
+        "definitions": "↔1 =10", "lines": "+6 −5"}, ["- `page`, definitions: moved `area`: page/specs/Sizes → page/specs/Area"]
     yield "moved to another crate", edited((SIZES, AREA, ""), (ROOM, "abbrev", f"{AREA}abbrev")), {
-        "definitions": "↔1 =9", "lines": "+3 −3"}, ["- `call`, definitions: moved `area`: page/specs/Sizes → call/specs/Room"]
-    yield "a name from another file, to which nothing moved", edited((FACTS, "specs.Sizes", "specs.Others")), {
-        "lines": "+1 −1"}, ["- 2 more take a name from another file than before: definitions `Small`; statements `Same`"]
+        "definitions": "↔1 =10", "lines": "+3 −3"}, ["- `call`, definitions: moved `area`: page/specs/Sizes → call/specs/Room"]
+    yield "moved to where its names mean something else", edited(
+        (SIZES, AREA, ""), (FACTS, "specs.Sizes.{area}", "specs.Area.{area}"), (PROOFS, "specs.Sizes", "specs.Area")
+    ) | {"crates/page/specs/Area.antt": f"use Prim.Native.Nat.{{ℕ, zero, id as suc}}\n\n{AREA}"}, {
+        "definitions": "~1 =10", "lines": "+6 −5"}, ["- `page`, definitions: changed `area`"]
     yield "a module's parameters", edited((PROOFS, "module _ (n : ℕ)", "module _ {n : ℕ}")), {
         "lines": "+1 −1"}, ["- 2 more stand in a module whose parameters changed: proofs 2"]
 
-    yield "renamed, and in code a variable", exchanged(("area", "surface")), {"definitions": "↔1 =9", "functions": "~1 =4", "lines": "+12 −12"}, [
+    yield "renamed, and in code a variable", exchanged(("area", "surface")), {"definitions": "↔1 =10", "functions": "~1 =6", "lines": "+12 −12"}, [
         "- `page`, definitions: renamed `area` → `surface`",
         "- 3 more differ only by a name that was renamed: definitions `Small`; statements `Same`; proofs 1"]
     yield "renamed, with another word for it once", exchanged(("Small n = area n", "Small n = room n"), ("area", "surface")), {
-        "definitions": "~1 ↔1 =8", "functions": "~1 =4", "lines": "+12 −12"}, [
+        "definitions": "~1 ↔1 =9", "functions": "~1 =6", "lines": "+12 −12"}, [
         "- `page`, definitions: changed `Small`; renamed `area` → `surface`",
         "- 2 more differ only by a name that was renamed: statements `Same`; proofs 1"]
     yield "an operator renamed", exchanged(("beside", "by")), {
-        "definitions": "↔1 =9", "lines": "+3 −3"}, ["- `page`, definitions: renamed `_beside_` → `_by_`"]
+        "definitions": "↔1 =10", "lines": "+3 −3"}, ["- `page`, definitions: renamed `_beside_` → `_by_`"]
     yield "a function renamed, with its proof", exchanged(("double", "doubled")), {
-        "contracts": "↔1 =1", "proofs": "↔1 =4", "functions": "↔1 =4", "lines": "+5 −5"}, ["- 1 more differ only by a name that was renamed: functions 1"]
+        "contracts": "↔1 =3", "proofs": "↔1 =4", "functions": "↔1 =6", "lines": "+5 −5"}, ["- 1 more differ only by a name that was renamed: functions 1"]
     yield "a function in place of another, with its proof", exchanged(("double", "triple"), ("2 * n", "3 * n")), {
-        "contracts": "+1 −1 =1", "proofs": "+2 −2 =3", "functions": "+1 ~1 −1 =3", "lines": "+8 −8"}, NO_NAME
+        "contracts": "+1 −1 =3", "proofs": "+2 −2 =3", "functions": "+1 ~1 −1 =5", "lines": "+8 −8"}, NO_NAME
     yield "a crate renamed", exchanged(("/call/", "/answers/"), ("Rattle.call", "Rattle.answers"), ("call::t", "answers::t"), ("\ncall: ", "\nanswers: ")), {
-        "lines": "+6 −6"}, ["- `call` is now `answers`"]
+        "lines": "+8 −8"}, ["- `call` is now `answers`"]
     yield "a file renamed", exchanged(("specs/Facts", "specs/Sayings"), ("specs.Facts", "specs.Sayings")), {
         "lines": "+1 −1"}, ["- `page/specs/Facts` is now `page/specs/Sayings`"]
 
@@ -252,7 +94,51 @@ def cases():
         "statements": "~1 =1", "lines": "+1 −1"}, ["- `page`, statements: changed `Same`"]
     yield "cases, which are no variables", edited(
         (SIZES, "left left = 0\nfrom-left right", "left right = 0\nfrom-left left"), (SIZES, "yes = 1\nif-so no", "no = 1\nif-so yes")
-    ), {"definitions": "~2 =8", "lines": "+4 −4"}, ["- `page`, definitions: changed `from-left`, `if-so`"]
+    ), {"definitions": "~2 =9", "lines": "+4 −4"}, ["- `page`, definitions: changed `from-left`, `if-so`"]
+
+    yield "a name from another file, to which nothing moved", edited((FACTS, "specs.Sizes.{area}", "specs.Others.{area}")), {
+        "definitions": "~1 =10", "statements": "~1 =1", "lines": "+1 −1"}, [
+        "- `page`, definitions: changed `Small`", "- `page`, statements: changed `Same`"]
+    yield "another name by the same word", edited((FACTS, "_≤_", "_<_ as _≤_"), (PROOFS, "refl}", "sym as refl}")), {
+        "definitions": "~1 =10", "proofs": "~2 =3", "lines": "+2 −2"}, ["- `page`, definitions: changed `Small`"]
+    yield "two names exchanged", edited((SIZES, "zero, suc,", "suc as zero, zero as suc,")), {
+        "definitions": "~1 =10", "lines": "+1 −1"}, ["- `page`, definitions: changed `area`"]
+    yield "a name brought in that meant something by itself", edited((SIZES, "-- a size", "use lib.Others.{Dec}\n")), {
+        "definitions": "~1 =10", "lines": "+1 −0"}, ["- `page`, definitions: changed `if-so`"]
+    yield "something new by the name of a variable", edited((FACTS, "abbrev pub Small", "abbrev pub b : ℕ\nb = 1\n\nabbrev pub Small")), {
+        "definitions": "+1 =11", "lines": "+2 −0"}, ["- `page`, definitions: added `b`"]
+    yield "a promise by another's name", edited((LIB, "{TwicePromise}", "{OtherPromise as TwicePromise}")), {
+        "contracts": "~1 =3", "lines": "+1 −1"}, ["- `call`, contracts of public calls: changed `twice`"]
+    yield "an answer by another's name", edited(
+        (SHOWN, "crate::Answer", "crate::Other as Answer"), (LIB, "// An", "pub enum Other {\n    Number(u32),\n}\n\n// An")
+    ), {"definitions": "+1 =11", "contracts": "~1 =3", "functions": "~1 =6", "lines": "+4 −1"}, [
+        "- `call`, definitions: added `Other`", "- `call`, contracts of public calls: changed `thrice`"]
+
+    yield "passed on by another's name", edited((FACTS, "{from-left}", "{area as from-left}")), {
+        "definitions": "~1 =10", "lines": "+1 −1"}, ["- `page`, definitions: changed `from-left`"]
+    yield "passed on, and no more", edited((FACTS, "pub use Rattle.page.specs.Sizes.{from-left}", "pub use Rattle.page.specs.Sizes.{if-so}")), {
+        "definitions": "+1 −1 =10", "lines": "+1 −1"}, ["- `page`, definitions: added `if-so`; removed `from-left`"]
+    yield "passed on, and renamed", exchanged(("from-left", "left-most")), {
+        "definitions": "↔2 =9", "lines": "+6 −6"}, [
+        "- `page`, definitions: renamed `from-left` → `left-most`, `from-left` → `left-most`",
+        "- 1 more differ only by a name that was renamed: definitions `room`"]
+    yield "taken from where it is passed on", edited((ROOM, "Sizes.{from-left, right}", "Sizes.{right}\nuse Rattle.page.specs.Facts.{from-left}")), {
+        "lines": "+2 −1"}, NO_NAME
+
+    yield "the contract of a call that a module shows", edited((SHOWN, "TwicePromise n r", "TwicePromise r n")), {
+        "contracts": "~1 =3", "lines": "+1 −1"}, ["- `call`, contracts of public calls: changed `thrice`"]
+    yield "a call shown by another name", edited((LIB, "shown::thrice;", "shown::thrice as three;")), {
+        "contracts": "~1 =3", "lines": "+1 −1"}, ["- `call`, contracts of public calls: changed `thrice`"]
+    yield "a call shown no more", edited((LIB, "pub use shown::thrice;\n", "")), {
+        "contracts": "~1 =3", "lines": "+0 −1"}, ["- `call`, contracts of public calls: changed `thrice`"]
+    yield "the contract of a type's function", edited((LIB, "limit ≤ room", "room ≤ limit")), {
+        "contracts": "~1 =3", "lines": "+1 −1"}, ["- `call`, contracts of public calls: changed `Answer::most`"]
+    yield "a type's functions", edited((LIB, "    // No more", "    fn none() -> u32 {\n        0\n    }\n    // No more"), (LIB, "        limit\n", "        8\n")), {
+        "functions": "+1 ~1 =6", "lines": "+4 −1"}, NO_NAME
+    yield "what a call is given, and what it answers", edited((LIB, "twice(n: u32)", "twice(n: u64)"), (SHOWN, "-> Answer", "-> u32")), {
+        "contracts": "~2 =2", "functions": "~2 =5", "lines": "+2 −2"}, ["- `call`, contracts of public calls: changed `twice`, `thrice`"]
+    yield "what a call is given, by another name", edited((SHOWN, "n: u32", "m: u32"), (SHOWN, "TwicePromise n", "TwicePromise m"), (SHOWN, "(n)", "(m)")), {
+        "functions": "~1 =6", "lines": "+3 −3"}, ["- 1 more differ only by the name of a variable: contracts 1"]
 
 
 HEAD = "| crate | definitions | statements | contracts | proofs | functions | lines |", "|---|---|---|---|---|---|---|"
@@ -265,25 +151,25 @@ THIRD = {**SECOND, "crates/page/specs/Wide.antt": "abbrev pub Wide : Type 0\nWid
 ASKED = [
     (("HEAD~1",), 0, [
         *HEAD,
-        "| `page` | ~1 =7 | +1 =1 | 0 | =3 | =2 | +3 −1 |",
-        "| `call` | =2 | =1 | =2 | ~1 =1 | ~1 =1 | +2 −2 |",
+        "| `page` | ~1 =8 | +1 =1 | 0 | =3 | =2 | +3 −1 |",
+        "| `call` | =2 | =1 | =4 | ~1 =1 | ~1 =3 | +2 −2 |",
         "| `program` | 0 | 0 | 0 | 0 | ~1 | +1 −4 |",
-        "| all | ~1 =9 | +1 =2 | =2 | ~1 =4 | ~2 =3 | +6 −7 |",
+        "| all | ~1 =10 | +1 =2 | =4 | ~1 =4 | ~2 =5 | +6 −7 |",
         "", SIGNS, "", "left alone: no crate", "",
         "- `page`, definitions: changed `from-left`",
         "- `page`, statements: added `Wide`",
     ], ""),
     (("HEAD",), 0, [
         *HEAD,
-        "| `page` | =8 | +1 =1 | 0 | =3 | =2 | +2 −0 |",
+        "| `page` | =9 | +1 =1 | 0 | =3 | =2 | +2 −0 |",
         "| `program` | 0 | 0 | 0 | 0 | ~1 | +1 −4 |",
-        "| all | =10 | +1 =2 | =2 | =5 | ~1 =4 | +3 −4 |",
+        "| all | =11 | +1 =2 | =4 | =5 | ~1 =6 | +3 −4 |",
         "", SIGNS, "", "left alone: call", "",
         "- `page`, statements: added `Wide`",
     ], ""),
     (("--brief", "--proofs", "HEAD~1"), 0, [
         *HEAD,
-        "| all | ~1 =9 | +1 =2 | =2 | ~1 =4 | ~2 =3 | +6 −7 |",
+        "| all | ~1 =10 | +1 =2 | =4 | ~1 =4 | ~2 =5 | +6 −7 |",
         "",
         "- `page`, definitions: changed `from-left`",
         "- `page`, statements: added `Wide`",
