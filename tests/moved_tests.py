@@ -14,7 +14,7 @@ sys.dont_write_bytecode = True  # nothing is left in the tree
 from moved_tree import AREA, BASE, FACTS, INNER, LIB, MAIN, PROMISES, PROOF, PROOFS, ROOM, SHOWN, SIZES, edited, exchanged
 
 ROOT = pathlib.Path(__file__).resolve().parent.parent
-SCRIPT = *(f"bench/{name}" for name in ("moved", "paired.py", "declared.py", "calls.py", "cost")), *(f"tests/{name}.py" for name in ("sources", "rattle", "faces"))
+SCRIPT = "bench/moved", "bench/paired.py", "bench/declared.py", "bench/calls.py", "bench/cost", "tests/sources.py", "tests/rattle.py", "tests/faces.py"
 
 # the row of a tree in which nothing changed
 ALONE = {"definitions": "=11", "statements": "=2", "contracts": "=4", "proofs": "=5", "functions": "=7", "lines": "+0 −0"}
@@ -133,8 +133,9 @@ def cases():
         "contracts": "~1 =3", "lines": "+0 −1"}, ["- `call`, contracts of public calls: changed `thrice`"]
     yield "the contract of a type's function", edited((LIB, "limit ≤ room", "room ≤ limit")), {
         "contracts": "~1 =3", "lines": "+1 −1"}, ["- `call`, contracts of public calls: changed `Answer::most`"]
-    yield "a type's functions", edited((LIB, "    // No more", "    fn none() -> u32 {\n        0\n    }\n    // No more"), (LIB, "        limit\n", "        8\n")), {
-        "functions": "+1 ~1 =6", "lines": "+4 −1"}, NO_NAME
+    yield "a type's functions", edited(
+        (LIB, "    // No more", "    fn none() -> u32 {\n        0\n    }\n    // No more"), (LIB, "        limit\n", "        8\n")
+    ), {"functions": "+1 ~1 =6", "lines": "+4 −1"}, NO_NAME
     yield "what a call is given, and what it answers", edited((LIB, "twice(n: u32)", "twice(n: u64)"), (SHOWN, "-> Answer", "-> u32")), {
         "contracts": "~2 =2", "functions": "~2 =5", "lines": "+2 −2"}, ["- `call`, contracts of public calls: changed `twice`, `thrice`"]
     yield "what a call is given, by another name", edited((SHOWN, "n: u32", "m: u32"), (SHOWN, "TwicePromise n", "TwicePromise m"), (SHOWN, "(n)", "(m)")), {
