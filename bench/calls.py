@@ -53,11 +53,10 @@ class Code:
     def meant(self, path, name):
         """What a name stands for in a file: the module, the name there, and nothing more of it. Where it is brought in from elsewhere, its path says it."""
         module = self.modules.get(path)
-        item = module and self.faces.named(module, name)
-        if isinstance(item, rattle.Module):
-            return {("::".join((item.crate, *item.path)), "", "")}
-        if item:
-            return {("::".join((item.module.crate, *item.module.path)), item.name, "")}
+        items = self.faces.named(module, name) if module else []
+        if items:
+            homes = [(item, "") if isinstance(item, rattle.Module) else (item.module, item.name) for item in items]
+            return {("::".join((home.crate, *home.path)), own, "") for home, own in homes}
         uses = [item for _, item in module.items if isinstance(item, rattle.Use) and item.name == name] if module else []
         return {("::".join(use.path[:-1]), use.path[-1], "") for use in uses}
 
