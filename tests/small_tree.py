@@ -126,7 +126,7 @@ pub fn first(n: u32) -> u32
     requires { ⌜ n ≤ 8 ⌝ }
     ensures { λ r. ⌜ r ≡ n ⌝ }
 {
-    n
+    numbers::half(n)
 }
 """,
     "crates/probe/specs/Lib.antt": "pub mod Promises\n",
@@ -165,14 +165,14 @@ pub one-fill : OneFill
 one-fill mode old r t now after p q = (p .0 ∙ sym (q .0), p .1 ∙ sym (q .1))
 """,
     "crates/probe/must-fail/another_number.edit": "refused: proofs/check/Proof.antt returns\nfile: src/lib.rt\nold: first(d)\nnew: first(k)\n",
-    "crates/probe/must-fail/everything_refused.edit": "refused: proofs/refusals/first/Proof.antt returns\nfile: src/refusals.rt\nold:     n\nnew:     8\n",
+    "crates/probe/must-fail/everything_refused.edit": "refused: proofs/refusals/first/Proof.antt returns\nfile: src/refusals.rt\nold:     numbers::half(n)\nnew:     8\n",
     "crates/probe/must-fail/place_cleared.edit": """\
 refused: proofs/fill/Proof.antt returns
 file: src/lib.rt
 old:     refusals::first(mode)
 new:     place[0] = 0; refusals::first(mode)
 """,
-    "crates/listing/src/main.rt": "// The program.\nfn main() {\n}\n",
+    "crates/listing/src/main.rt": "// The program.\nfn main() {\n    probe::fill(8, &mut []);\n}\n",
     "docs/PROMISES.md": """\
 # What is promised
 

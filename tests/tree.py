@@ -11,6 +11,7 @@
 - No axiom and no hole stands in a crate, and no function of C is declared in one. No definition and no contract rests on anything of a folder proofs/.
 - What must be read for the law, the definitions of document 01 and what they name, rests on nothing else of the tree, and has no function.
 - No library rests on the kit's crates that call functions of C: programs alone do.
+- A crate names each crate that crates.txt has it rest on.
 - No file of a crate, of tests/ or of bench/ is over 400 lines, and no source brings in a name that it does not use.
 - Inner crates say that they are, and what other libraries show to the outside is held to its promises: tests/faces.py.
 - docs/BENCHMARKS.md counts the lines and the edits of each crate as bench/cost does.
@@ -244,6 +245,15 @@ def worldless():
                 yield f"crates.txt has {crate}, which is no program, rest on {name}"
 
 
+def named_below():
+    """A crate names each crate that it is listed to rest on, in its code, its definitions or its proofs."""
+    for crate, below in sources.listed().items():
+        files = [path for path in sources.sources() if path.relative_to(sources.ROOT).parts[1] == crate]
+        text = "\n".join(line for path in files for line in code_of(path))
+        for name in [name for name in below if not re.search(rf"Rattle.{name}\b|(?<![\w:·.]){name}::", text)]:
+            yield f"crates.txt has {crate} rest on {name}, which it does not name"
+
+
 def law():
     """Nothing but the law stands below it, and no code."""
     for crate, below in sources.listed().items():
@@ -308,7 +318,7 @@ def places():
 
 RULES = (
     citations, statements, edits, sentences, mentions, the_map, crate_rows, readable, disguises, axioms_and_holes, definitions_alone, law,
-    worldless, lengths, imports,
+    worldless, named_below, lengths, imports,
     faces.inner_crates, faces.shown_types, faces.contracts, faces.promises_told, faces.known_calls, faces.one_outcome, faces.wrong_answers, costs, places,
 )
 

@@ -58,7 +58,7 @@ BREAKS = {
         ("docs/DESIGN.md names Lost of crates/page/proofs, which is not there", (DESIGN, "`proofs/Facts` |", "`proofs/Facts`, `Lost` |")),
     ],
     tree.crate_rows: [
-        ("docs/DESIGN.md has the crate more 0 times in its table, and crates.txt 1 times", ("crates.txt", "listing:", "more: page\nlisting:")),
+        ("docs/DESIGN.md has the crate more 0 times in its table, and crates.txt 1 times", ("crates.txt", "listing:", "more:\nlisting:")),
         ("docs/DESIGN.md has the crate page 0 times in its table, and crates.txt 1 times", (DESIGN, "| `page` | the page |\n", "")),
         ("docs/DESIGN.md has the crate gone 1 times in its table, and crates.txt 0 times", (DESIGN, "| `page` |", "| `page`, `gone` |")),
         ("docs/DESIGN.md has the crate probe 2 times in its table, and crates.txt 1 times", (DESIGN, "| `page` |", "| `page`, `probe` |")),
@@ -145,17 +145,26 @@ BREAKS = {
 
     # ---- what crates rest on
     tree.law: [
-        ("crates.txt has page, which is of the law, rest on numbers", ("crates.txt", "page:\n", "page: numbers\n")),
+        ("crates.txt has page, which is of the law, rest on numbers", ("crates.txt", "page:\n", "page: numbers\n"),
+         (SPECS, "\nmore = Rattle.numbers.specs.x\n")),
         ("page is of the law and has the function first",
          ("crates/page/src/lib.rt", "No code: the page as definitions.", "An inner crate: what its functions require, every caller proves."),
          ("crates/page/src/lib.rt", "fn first() -> u64 {\n    1\n}\n")),
     ],
     tree.worldless: [
-        *((f"crates.txt has probe, which is no program, rest on {name}", ("crates.txt", "probe: page numbers verdicts", f"probe: page numbers verdicts {name}"))
+        *((f"crates.txt has probe, which is no program, rest on {name}",
+           ("crates.txt", "probe: page numbers verdicts", f"probe: page numbers verdicts {name}"), ("crates/probe/src/lib.rt", f"use {name}::more;\n"))
           for name in ("io", "libc", "os")),
-        ("crates.txt has numbers, which is no program, rest on io", ("crates.txt", "numbers:\n", "numbers: io\n")),
+        ("crates.txt has numbers, which is no program, rest on io", ("crates.txt", "numbers:\n", "numbers: io\n"), (NUMBERS, "use io::more;\n")),
         ("crates.txt has listing, which is no program, rest on io",
-         ("crates.txt", "listing: probe", "listing: probe io"), ("crates/listing/src/lib.rt", "pub use probe::fill;\n")),
+         ("crates.txt", "listing: probe", "listing: probe io"), ("crates/listing/src/lib.rt", "pub use probe::fill;\nuse io::more;\n")),
+    ],
+    tree.named_below: [
+        ("crates.txt has listing rest on page, which it does not name", ("crates.txt", "listing: probe", "listing: probe page")),
+        ("crates.txt has listing rest on page, which it does not name",
+         ("crates.txt", "listing: probe", "listing: probe page"), ("crates/listing/src/main.rt", "// page::more, Rattle.page\nuse probe::page::more;\n")),
+        ("crates.txt has listing rest on probe, which it does not name", ("crates/listing/src/main.rt", "probe::fill", "probes::fill")),
+        ("crates.txt has probe rest on numbers, which it does not name", ("crates/probe/src/refusals.rt", "numbers::half(n)", "n")),
     ],
 
     # ---- lengths and imports
@@ -188,7 +197,10 @@ BREAKS = {
 
 # what may be done: what it is, and the edits
 KEEPS = [
-    ("a program that reads and writes", ("crates.txt", "listing: probe", "listing: probe io libc os")),
+    ("a program that reads and writes", ("crates.txt", "listing: probe", "listing: probe io libc os"),
+     ("crates/listing/src/main.rt", "use io::more;\nuse {libc::more, os::more};\n")),
+    ("a crate that a proof alone names", ("crates.txt", "listing: probe", "listing: probe page"),
+     ("crates/listing/proofs/Lib.antt", "use Rattle.page.specs.Sheet.{Sheet}\nsame : Sheet → Sheet\nsame S = S\n")),
     ("a definition that takes something", (SPECS, "\nabbrev pub Degree : Sheet → Type 0\nDegree S = S .d ≡ 0\n")),
     ("a name that needs « »", (NUMBERS, "\nfn same(at_most: u32) -> u32\n    ensures { λ r. ⌜ r ≡ «at_most» ⌝ }\n{\n    at_most\n}\n")),
     ("a text with the mark of a comment", (NUMBERS, '\nfn mark() -> [u8; 2] {\n    *b"//"\n}\n')),
