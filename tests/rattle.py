@@ -3,6 +3,7 @@
 A source is read token by token, so that it does not matter how its lines are broken. What is not understood is an error: `Unread`.
 """
 import collections
+import functools
 import re
 
 from sources import at, text_of
@@ -51,6 +52,7 @@ class Module:
                 yield from item.within()
 
 
+@functools.cache
 def tokens(text):
     """The tokens with their lines. A clause is one of them, its word and all that its braces hold; and what a `ghost use` brings in is none."""
     place, line, found = 0, 1, []
@@ -77,7 +79,7 @@ def tokens(text):
             found.append((line, word))
         line += text.count("\n", place, end)
         place = end
-    return found
+    return tuple(found)
 
 
 class Reader:
@@ -85,7 +87,7 @@ class Reader:
 
     def __init__(self, file):
         text = text_of(file)
-        self.tokens, self.place = tokens(text) + [(text.count("\n"), None)], 0
+        self.tokens, self.place = (*tokens(text), (text.count("\n"), None)), 0
 
     def next(self, *wanted):
         """The next token, where it is one of those that are wanted."""

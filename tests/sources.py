@@ -4,6 +4,7 @@ The rules of tests/tree.py and tests/faces.py go by lines and words, as a reader
 else than its lines show: a comment that does not look like one, a name in disguise, a character that is not seen.
 """
 import collections
+import functools
 import pathlib
 import re
 
@@ -48,16 +49,26 @@ def crates():
 
 def listed():
     """The crates of crates.txt, and what each rests on."""
-    return {crate: below.split() for crate, below in re.findall(r"^(\w+):(.*)$", text_of(at("crates.txt")), re.M)}
+    return {crate: below.split() for crate, below in re.findall(r"^(\w+):([^#\n]*)", text_of(at("crates.txt")), re.M)}
+
+
+def explained():
+    """The crates of crates.txt that rest on one for a reason that is told there: both names."""
+    return re.findall(r"^(\w+):[^#\n]*# (\w+): \w", text_of(at("crates.txt")), re.M)
 
 
 def text_of(path):
     return path.read_bytes().decode()
 
 
+@functools.cache
+def code_in(suffix, text):
+    return tuple(ASIDE[suffix].sub(lambda found: "" if found[0][0] in "-/" else '""', line) for line in text.split("\n"))
+
+
 def code_of(path):
     """A file's lines without their comments, and with nothing in their texts."""
-    return [ASIDE[path.suffix].sub(lambda found: "" if found[0][0] in "-/" else '""', line) for line in text_of(path).split("\n")]
+    return list(code_in(path.suffix, text_of(path)))
 
 
 def oddities(path):

@@ -246,11 +246,11 @@ def worldless():
 
 
 def named_below():
-    """A crate names each crate that it is listed to rest on, in its code, its definitions or its proofs."""
+    """A crate names each crate that it is listed to rest on, in its code, its definitions or its proofs; or crates.txt says what it needs it for."""
     for crate, below in sources.listed().items():
         files = [path for path in sources.sources() if path.relative_to(sources.ROOT).parts[1] == crate]
         text = "\n".join(line for path in files for line in code_of(path))
-        for name in [name for name in below if not re.search(rf"Rattle.{name}\b|(?<![\w:·.]){name}::", text)]:
+        for name in [name for name in below if not re.search(rf"Rattle.{name}\b|(?<![\w:·.]){name}::", text) and (crate, name) not in sources.explained()]:
             yield f"crates.txt has {crate} rest on {name}, which it does not name"
 
 

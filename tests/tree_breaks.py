@@ -163,6 +163,7 @@ BREAKS = {
         ("crates.txt has listing rest on page, which it does not name", ("crates.txt", "listing: probe", "listing: probe page")),
         ("crates.txt has listing rest on page, which it does not name",
          ("crates.txt", "listing: probe", "listing: probe page"), ("crates/listing/src/main.rt", "// page::more, Rattle.page\nuse probe::page::more;\n")),
+        ("crates.txt has listing rest on page, which it does not name", ("crates.txt", "listing: probe", "listing: probe page  # verdicts: for its type")),
         ("crates.txt has listing rest on probe, which it does not name", ("crates/listing/src/main.rt", "probe::fill", "probes::fill")),
         ("crates.txt has probe rest on numbers, which it does not name", ("crates/probe/src/refusals.rt", "numbers::half(n)", "n")),
     ],
@@ -197,6 +198,7 @@ BREAKS = {
 
 # what may be done: what it is, and the edits
 KEEPS = [
+    ("a crate that another one needs, and why", ("crates.txt", "listing: probe", "listing: probe page  # page: for its sheet")),
     ("a program that reads and writes", ("crates.txt", "listing: probe", "listing: probe io libc os"),
      ("crates/listing/src/main.rt", "use io::more;\nuse {libc::more, os::more};\n")),
     ("a crate that a proof alone names", ("crates.txt", "listing: probe", "listing: probe page"),

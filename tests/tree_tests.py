@@ -5,6 +5,8 @@ a fault too; and the check ends with 1 where there is a fault, and with 0 where 
 """
 import contextlib
 import io
+import multiprocessing
+import os
 import pathlib
 import subprocess
 import sys
@@ -77,29 +79,47 @@ def status(*edits):
         return tree.main(), said.getvalue().splitlines()
 
 
-def main():
-    wrong, rules = [], {**tree_breaks.BREAKS, **face_breaks.BREAKS}
-    breaks = [(rule, *one) for rule, several in rules.items() for one in several]
-    keeps = tree_breaks.KEEPS + face_breaks.KEEPS
+RULES = {**tree_breaks.BREAKS, **face_breaks.BREAKS}
+# each edit with the rule and the fault that should be told; and those that break none, with what they are
+BREAKS = [(rule, *one) for rule, several in RULES.items() for one in several]
+KEEPS = tree_breaks.KEEPS + face_breaks.KEEPS
+
+
+@contextlib.contextmanager
+def planted():
+    """The small tree, in a folder of its own: its files."""
     with tempfile.TemporaryDirectory() as home:
         sources.ROOT, faces.INNER, tree.LAW = pathlib.Path(home).resolve(), small_tree.INNER, small_tree.LAW
         subprocess.run(["git", "init", "-q"], cwd=home, check=True)
         for name, text in small_tree.FILES.items():
             write(name, text)
         tree.counting().update()
-        whole = {**small_tree.FILES, "docs/BENCHMARKS.md": sources.document("BENCHMARKS.md")}
-        if "| 7 | 9 |" not in whole["docs/BENCHMARKS.md"]:
-            wrong.append("bench/cost --update does not keep the times")
-        wrong += [f"the whole tree: {rule.__name__}: {fault}" for rule, fault in faults()]
-        for rule, fault, *edits in breaks:
+        yield {**small_tree.FILES, "docs/BENCHMARKS.md": sources.document("BENCHMARKS.md")}
+
+
+def tried(part, parts):
+    """What is wrong with every so many of the edits, from one on."""
+    wrong = []
+    with planted() as whole:
+        for rule, fault, *edits in BREAKS[part::parts]:
             found = told(rule, edits)
             if found != [(rule, fault)]:
                 wrong.append(f"{edits}\n    should be told of by {rule.__name__}: {fault}")
                 wrong += [f"    is told of by {one.__name__}: {other}" for one, other in found] or ["    is not told of"]
             restore(whole)
-        for what, *edits in keeps:
+        for what, *edits in KEEPS[part::parts]:
             wrong += [f"{what}: {one.__name__}: {fault}" for one, fault in told(None, edits)]
             restore(whole)
+        wrong += [f"after all edits: {rule.__name__}: {fault}" for rule, fault in faults()]
+    return wrong
+
+
+def untouched():
+    """What is wrong with the tree as it is, and with what the check of it ends with."""
+    with planted() as whole:
+        wrong = [f"the whole tree: {rule.__name__}: {fault}" for rule, fault in faults()]
+        if "| 7 | 9 |" not in whole["docs/BENCHMARKS.md"]:
+            wrong.append("bench/cost --update does not keep the times")
         files = len(sources.sources())
         ends = [((), (0, [f"tree: 0 faults in {files} source files"])),
                 ([("docs/THEORY.md", "`half`", "a half")], (1, ["docs/THEORY.md cites nothing", f"tree: 1 faults in {files} source files"]))]
@@ -107,11 +127,18 @@ def main():
             found = status(*edits)
             wrong += [f"{edits}: the check should end with {end}, and ends with {found}"] if found != end else []
             restore(whole)
-        wrong += [f"after all edits: {rule.__name__}: {fault}" for rule, fault in faults()]
-    wrong += [f"no edit breaks the rule {rule.__name__}" for rule in tree.RULES if not rules.get(rule)]
+    return wrong
+
+
+def main():
+    wrong, parts = untouched(), os.cpu_count() or 1
+    with multiprocessing.Pool(parts) as pool:
+        for found in pool.starmap(tried, [(part, parts) for part in range(parts)]):
+            wrong += found
+    wrong += [f"no edit breaks the rule {rule.__name__}" for rule in tree.RULES if not RULES.get(rule)]
     for line in wrong:
         print(line)
-    print(f"tree tests: {len(breaks)} edits that break one of {len(tree.RULES)} rules, {len(keeps)} that break none, {len(wrong)} lines of faults")
+    print(f"tree tests: {len(BREAKS)} edits that break one of {len(tree.RULES)} rules, {len(KEEPS)} that break none, {len(wrong)} lines of faults")
     return 1 if wrong else 0
 
 
