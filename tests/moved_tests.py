@@ -3,6 +3,7 @@
 Each case is a tree as it stands after one commit, with files that git does not know among it, and what `bench/moved --brief` says of it word for word: the
 row for all crates, and the names. Then come two commits and a tree after them, and what is said where there is nothing to compare with.
 """
+import concurrent.futures
 import os
 import pathlib
 import shutil
@@ -221,22 +222,25 @@ class Repository:
         return answer.returncode, answer.stdout.splitlines(), answer.stderr.removeprefix("moved: ").strip()
 
 
-def answers(repository):
-    """For each case what was tried, the answer that is wanted and the one that came."""
-    repository.commit(BASE)
-    for what, texts, cells, names in cases():
-        repository.write(texts)
-        row = f"| all | {' | '.join({**ALONE, **cells}.values())} |"
-        yield what, (0, [*HEAD, row, "", *names], ""), repository.moved("--brief", "HEAD")
-    repository.commit(SECOND)
-    repository.write(THIRD)
-    for words, *wanted in ASKED:
-        yield " ".join(["bench/moved", *words]), tuple(wanted), repository.moved(*words)
+def answers(part, parts):
+    """For every so many of the cases, from one on, what was tried, the answer that is wanted and the one that came."""
+    with tempfile.TemporaryDirectory() as home:
+        repository = Repository(home)
+        repository.commit(BASE)
+        for what, texts, cells, names in list(cases())[part::parts]:
+            repository.write(texts)
+            row = f"| all | {' | '.join({**ALONE, **cells}.values())} |"
+            yield what, (0, [*HEAD, row, "", *names], ""), repository.moved("--brief", "HEAD")
+        repository.commit(SECOND)
+        repository.write(THIRD)
+        for words, *wanted in ASKED[part::parts]:
+            yield " ".join(["bench/moved", *words]), tuple(wanted), repository.moved(*words)
 
 
 def main():
-    with tempfile.TemporaryDirectory() as home:
-        found = list(answers(Repository(home)))
+    parts = os.cpu_count() or 1
+    with concurrent.futures.ThreadPoolExecutor(parts) as pool:
+        found = [answer for some in pool.map(lambda part: list(answers(part, parts)), range(parts)) for answer in some]
     faults = [(what, wanted, came) for what, wanted, came in found if wanted != came]
     for what, *both in faults:
         print(f"{what}:")
