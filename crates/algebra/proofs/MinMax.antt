@@ -1,9 +1,12 @@
--- The larger and the smaller of two integers: bounds, the least and the greatest of their kind.
-use mathlib.Core.Path.{_≡_}
-use Prim.Native.Nat.{ℕ}
+-- The larger and the smaller of two integers: bounds, the least and the greatest of their kind. The largest of many natural numbers likewise, and it is one of them.
+use mathlib.Core.Path.{_≡_, refl}
+use mathlib.Core.List.{List, [], _∷_, List·Memᴰ, List·Memᴰ·head, List·Memᴰ·tail}
+use Prim.Native.Nat.{ℕ, _≤_, _<_}
+use native.Mathlib.Decide.{decLe}
+use native.Mathlib.Omega.{arith}
 use lib.IntN.{ℤ, pos, _*ℤ_, negℤ, negℤ-negℤ}
 use lib.Signed.{_≤ℤ_, ltZ, ltZ-yes, ltZ-no, ≤ℤ-refl}
-use Rattle.algebra.specs.MinMax.{minℤ, maxℤ}
+use Rattle.algebra.specs.MinMax.{minℤ, maxℤ, largest}
 use Rattle.algebra.proofs.Choice.{choice}
 use Rattle.algebra.proofs.Order.{≤ℤ-of-<ℤ, ≤ℤ-antisymm, negℤ-mono, nonneg, *ℤ-mono}
 
@@ -33,3 +36,29 @@ unfolding minℤ
 *ℤ-minℤ c a b = ≤ℤ-antisymm
     (minℤ-greatest (*ℤ-mono (nonneg c) (minℤ-≤ℤ a b .0)) (*ℤ-mono (nonneg c) (minℤ-≤ℤ a b .1)))
     (choice (λ x. minℤ (pos c *ℤ a) (pos c *ℤ b) ≤ℤ (pos c *ℤ x)) (ltZ a b) a b (λ t. minℤ-≤ℤ (pos c *ℤ a) (pos c *ℤ b) .0) (λ t. minℤ-≤ℤ (pos c *ℤ a) (pos c *ℤ b) .1))
+
+-- ---- the largest f x over a list
+module _ {ℓ} {A : Type ℓ} where
+  pub largest-member : (f : A → ℕ) {x : A} {xs : List A} → List·Memᴰ x xs → f x ≤ largest xs f
+  unfolding largest
+  largest-member f (List·Memᴰ·head {xs = xs} e) = rw e (omega arith)
+  largest-member f (List·Memᴰ·tail m) = let h = largest-member f m in omega arith
+
+  pub largest-least : (xs : List A) {f : A → ℕ} {m : ℕ} → ((x : A) → List·Memᴰ x xs → f x ≤ m) → largest xs f ≤ m
+  unfolding largest
+  largest-least [] h = omega arith
+  largest-least (x ∷ xs) h = let a = h x (List·Memᴰ·head refl) in let b = largest-least xs (λ y m. h y (List·Memᴰ·tail m)) in omega arith
+
+  -- a member that has it
+  pub record Largest (xs : List A) (f : A → ℕ) : Type ℓ where
+    pub member : A
+    pub within : List·Memᴰ member xs
+    pub most : f member ≡ largest xs f
+
+  pub largest-reached : (xs : List A) (f : A → ℕ) → 0 < largest xs f → Largest xs f
+  unfolding largest
+  largest-reached [] f h = absurd (omega arith)
+  largest-reached (x ∷ xs) f h = elim (decLe (largest xs f) (f x)) [
+    | yes l ↦ record { member = x; within = List·Memᴰ·head refl; most = omega arith }
+    | no l ↦ let r = largest-reached xs f (omega arith) in let e = r .most in record { member = r .member; within = List·Memᴰ·tail (r .within); most = omega arith }
+  ]

@@ -1,5 +1,5 @@
 -- The forms of a sheet: its scaled coefficients may be moved about any point of the square, and moved about a cell's centre they are its local form.
-use mathlib.Core.Path.{_≡_, sym, _∙_, ap, subst}
+use mathlib.Core.Path.{_≡_, sym, _∙_, ap, ap₂, subst}
 use mathlib.Core.List.{[], _∷_, List·Memᴰ}
 use Prim.Native.Nat.{ℕ, _+_, _*_, _-_, _^_, _≤_}
 use native.Mathlib.Nat as Nat
@@ -11,7 +11,7 @@ use Rattle.algebra.specs.Triangle.{place, triangle}
 use Rattle.algebra.proofs.Sum.{sum-cong, sumℕ-cong}
 use Rattle.algebra.proofs.Run.{⋯-member}
 use Rattle.algebra.proofs.Places.{row-start-zero}
-use Rattle.forms.specs.Bounds.{Mode, low, high}
+use Rattle.forms.specs.Bounds.{Mode, low, high, bent}
 use Rattle.forms.specs.Vectors.{vectors}
 use Rattle.forms.specs.LocalForm.{local}
 use Rattle.forms.specs.Plane.{moved}
@@ -21,7 +21,7 @@ use Rattle.forms.proofs.Turns.{moved-first}
 use Rattle.local.specs.declared.Form.{Form}
 use Rattle.local.specs.Horner.{at}
 use Rattle.local.specs.Table.{held, Tabled, Movable}
-use Rattle.local.specs.Range.{lower-of, upper-of, Light}
+use Rattle.local.specs.Range.{lower-of, upper-of, bend-of, ranged, range-of, Light}
 use Rattle.local.proofs.Moves.{moved-agree}
 use Rattle.page.specs.Sheet.{Sheet}
 use Rattle.page.specs.Scaled.{scaled, F, IsCell, half-side, U0, V0}
@@ -42,11 +42,16 @@ module _ {d : ℕ} {f : ℕ → ℕ → ℤ} {form : Form} (t : Tabled d f form)
   pub triangle-held : (g : ℕ → ℕ → ℤ → ℕ) → triangle (form .degree) (λ i j. g i j (held form i j)) ≡ triangle d (λ i j. g i j (f i j))
   triangle-held g = ap (λ n. triangle n (λ i j. g i j (held form i j))) (t .degree) ∙ sumℕ-cong (0 ⋯ d) (λ i m. sumℕ-cong (0 ⋯ (d - i)) (λ j n. ap (g i j) (held-is i j (within i j m n))))
 
-  pub lower-held : (mode : Mode) → lower-of (form .degree) mode (held form) ≡ lower-of d mode f
+  lower-held : (mode : Mode) → lower-of (form .degree) mode (held form) ≡ lower-of d mode f
   lower-held mode = ap (λ n. lower-of n mode (held form)) (t .degree) ∙ sum-cong (0 ⋯ d) (λ i m. sum-cong (0 ⋯ (d - i)) (λ j n. ap (low mode (i ∷ j ∷ [])) (held-is i j (within i j m n))))
 
-  pub upper-held : (mode : Mode) → upper-of (form .degree) mode (held form) ≡ upper-of d mode f
+  upper-held : (mode : Mode) → upper-of (form .degree) mode (held form) ≡ upper-of d mode f
   upper-held mode = ap (λ n. upper-of n mode (held form)) (t .degree) ∙ sum-cong (0 ⋯ d) (λ i m. sum-cong (0 ⋯ (d - i)) (λ j n. ap (high mode (i ∷ j ∷ [])) (held-is i j (within i j m n))))
+
+  pub range-held : (mode : Mode) → range-of (form .degree) mode (held form) ≡ range-of d mode f
+  range-held mode =
+      ap₂ (λ l u. ranged l u (bend-of (form .degree) (held form))) (lower-held mode) (upper-held mode)
+      ∙ ap (ranged (lower-of d mode f) (upper-of d mode f)) (triangle-held (λ i j z. bent (i ∷ j ∷ []) z))
 
   -- the first place
   pub first-held : at (form .places) 0 ≡ f 0 0

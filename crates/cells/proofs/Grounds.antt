@@ -1,5 +1,5 @@
--- What is worked out once for an accepted sheet gives the page's verdicts and bends, in every cell.
-use mathlib.Core.Path.{_≡_, refl, _∙_, ap, fun-ext}
+-- What is worked out once for an accepted sheet gives the page's verdicts, in every cell.
+use mathlib.Core.Path.{_≡_, refl, _∙_, ap, ap₂, fun-ext}
 use mathlib.Core.List.{[], _∷_}
 use Prim.Native.Nat.{ℕ, _+_, _*_, _-_, _^_, _≤_, _<_}
 use native.Mathlib.Nat as Nat
@@ -17,7 +17,7 @@ use Rattle.local.specs.declared.Range.{Range}
 use Rattle.local.specs.Table.{held, Tabled, Movable}
 use Rattle.local.proofs.Moves.{moved-agree}
 use Rattle.verdicts.specs.Judging.{judged}
-use Rattle.local.specs.Range.{lower-of, upper-of, bend-of, Light, Ranged}
+use Rattle.local.specs.Range.{bend-of, range-of, judged-by, Light}
 use Rattle.page.specs.Sheet.{Sheet}
 use Rattle.page.specs.Scaled.{scaled, IsCell, half-side, U0, V0}
 use Rattle.page.specs.LocalForm.{G}
@@ -25,8 +25,8 @@ use Rattle.page.specs.Bounds.{lower, upper, bend, verdict}
 use Rattle.page.specs.Weight.{Accepted}
 use Rattle.page.proofs.Cells.{limit-u, limit-v, column-small, row-small, half-side-small}
 use Rattle.cells.specs.declared.Ground.{Ground}
-use Rattle.cells.specs.Cell.{GroundOf, Firm, half-in, table-in, verdicts-in, bend-in, CellRanged}
-use Rattle.cells.proofs.Forms.{held-is, triangle-held, lower-held, upper-held, movable, local-light}
+use Rattle.cells.specs.Cell.{GroundOf, Firm, half-in, table-in, verdicts-in}
+use Rattle.cells.proofs.Forms.{held-is, range-held, movable, local-light}
 
 -- a cell of the ground's grid is a cell of the sheet
 on-sheet : {S : Sheet} {mode : ℕ} {ground : Ground} {j p q : ℕ} → GroundOf S mode ground → IsCell (ground .k) j p q → IsCell (S .k) j p q
@@ -57,25 +57,20 @@ module _ {S : Sheet} {mode : ℕ} {ground : Ground} (g : GroundOf S mode ground)
       rw (across-is j p, along-is j q, half-is j)
       (ap (λ n. moved n (held (ground .form)) (U0 S j p) (V0 S j q) (pos (half-side S j)) a b) (g .tabled .degree) ∙ moved-agree (S .d) (held (ground .form)) (scaled S) (U0 S j p) (V0 S j q) (pos (half-side S j)) (held-is (g .tabled)) a b)
 
-  -- so the verdicts and bends are the page's
+  -- so the verdicts are the page's
   verdict-is : (j p q : ℕ) → verdicts-in ground j p q ≡ verdict S (mode-of mode) j p q
-  unfolding verdicts-in lower upper
+  unfolding verdicts-in lower upper bend
   verdict-is j p q =
       let m = mode-of mode in let T = table-in ground j p q in
-      ap (λ i. judged (lower-of (ground .form .degree) (mode-of i) T) (upper-of (ground .form .degree) (mode-of i) T)) (g .moded)
-      ∙ ap (λ n. judged (lower-of n m T) (upper-of n m T)) (g .tabled .degree)
-      ∙ ap (λ l. judged l (upper-of (S .d) m T)) (sum-cong (0 ⋯ (S .d)) (λ a i. sum-cong (0 ⋯ (S .d - a)) (λ b k. ap (low m (a ∷ b ∷ [])) (table-is j p q a b) ∙ low-plane m a b (G S j p q a b))))
-      ∙ ap (λ l. judged (lower S m j p q) l) (sum-cong (0 ⋯ (S .d)) (λ a i. sum-cong (0 ⋯ (S .d - a)) (λ b k. ap (high m (a ∷ b ∷ [])) (table-is j p q a b) ∙ high-plane m a b (G S j p q a b))))
+      ap₂ (λ n i. judged-by (range-of n (mode-of i) T)) (g .tabled .degree) (g .moded)
+      ∙ ap₂ (λ l u. judged l u (bend-of (S .d) T))
+      (sum-cong (0 ⋯ (S .d)) (λ a i. sum-cong (0 ⋯ (S .d - a)) (λ b k. ap (low m (a ∷ b ∷ [])) (table-is j p q a b) ∙ low-plane m a b (G S j p q a b))))
+      (sum-cong (0 ⋯ (S .d)) (λ a i. sum-cong (0 ⋯ (S .d - a)) (λ b k. ap (high m (a ∷ b ∷ [])) (table-is j p q a b) ∙ high-plane m a b (G S j p q a b))))
+      ∙ ap (judged (lower S m j p q) (upper S m j p q))
+      (sumℕ-cong (0 ⋯ (S .d)) (λ a i. sumℕ-cong (0 ⋯ (S .d - a)) (λ b k. ap (bent (a ∷ b ∷ [])) (table-is j p q a b) ∙ bent-plane a b (G S j p q a b))))
 
   pub verdicts-are : verdicts-in ground ≡ verdict S (mode-of mode)
   verdicts-are = fun-ext (λ j. fun-ext (λ p. fun-ext (λ q. verdict-is j p q)))
-
-  pub bend-is : (j p q : ℕ) → bend-in ground j p q ≡ bend S j p q
-  unfolding bend-in bend
-  bend-is j p q =
-      let T = table-in ground j p q in
-      ap (λ n. bend-of n T) (g .tabled .degree)
-      ∙ sumℕ-cong (0 ⋯ (S .d)) (λ a i. sumℕ-cong (0 ⋯ (S .d - a)) (λ b k. ap (bent (a ∷ b ∷ [])) (table-is j p q a b) ∙ bent-plane a b (G S j p q a b)))
 
 -- ---- the numbers of a cell are small
 -- 2^(k+1)·X, with k at most 7 and X at most 2^20 in size
@@ -94,7 +89,7 @@ module _ {ground : Ground} (g : Firm ground) where
   pub along-small : natAbs (ground .along) ≤ 2 ^ 28
   along-small = let r = g .accepted .ranges in corner-size (g .sheet .k) (g .sheet .Y) (r .depth) (r .corner-y) (g .of .along)
 
--- ---- the form about a cell's centre: it may be worked out, and its range is the cell's
+-- ---- the form about a cell's centre: it may be worked out, and the verdict by its range is the cell's
 module _ {ground : Ground} (g : Firm ground) (j p q : ℕ) (c : IsCell (ground .k) j p q) where
   pub cell-small : (p < 128) × (q < 128) × (half-in ground j ≤ 2 ^ 17)
   cell-small = let r = g .accepted .ranges in let i = on-sheet (g .of) c in (column-small r i, row-small r i, rw (half-is (g .of) j) (half-side-small r i))
@@ -110,11 +105,6 @@ module _ {ground : Ground} (g : Firm ground) (j p q : ℕ) (c : IsCell (ground .
         let o = g .of in
         local-light (g .accepted) (o .tabled) j p q (rw (across-is o j p, along-is o j q, half-is o j) at t) (on-sheet o c)
 
-    pub cell-ranged : {r : Range} → Ranged (there .degree) (mode-of (ground .mode)) (held there) r → CellRanged ground j p q r
-    unfolding verdicts-in bend-in
-    cell-ranged h =
-        let m = mode-of (ground .mode) in
-        record {
-          verdict = h .verdict ∙ ap (λ l. judged l (upper-of (there .degree) m (held there))) (lower-held t m) ∙ ap (λ l. judged (lower-of (ground .form .degree) m (table-in ground j p q)) l) (upper-held t m);
-          bend = h .bend ∙ triangle-held t (λ a b z. bent (a ∷ b ∷ []) z);
-        }
+    pub cell-judged : {r : Range} → r ≡ range-of (there .degree) (mode-of (ground .mode)) (held there) → judged-by r ≡ verdicts-in ground j p q
+    unfolding verdicts-in
+    cell-judged h = ap judged-by (h ∙ range-held t (mode-of (ground .mode)))

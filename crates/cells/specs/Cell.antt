@@ -1,13 +1,11 @@
--- The cells of a sheet on the machine: what the contracts of `ground_of` and `cell_range` say. None of it is the page's; proofs/Grounds shows that it gives the page's verdicts and bends.
+-- The cells of a sheet on the machine: what the contracts of `ground_of` and `cell_verdict` say. None of it is the page's; proofs/Grounds shows that it gives the page's verdicts.
 use mathlib.Core.Path.{_≡_}
 use Prim.Native.Nat.{ℕ, _+_, _*_, _-_, _^_, _≤_}
 use lib.IntN.{ℤ, pos, _+ℤ_, _*ℤ_}
 use Rattle.forms.specs.Plane.{moved}
-use Rattle.local.specs.declared.Range.{Range}
 use Rattle.local.specs.Table.{held, Tabled}
-use Rattle.verdicts.specs.Judging.{judged}
 use Rattle.forms.specs.Bounds.{mode-of}
-use Rattle.local.specs.Range.{lower-of, upper-of, bend-of}
+use Rattle.local.specs.Range.{range-of, judged-by}
 use Rattle.verdicts.specs.Walking.{Verdicts}
 use Rattle.page.specs.Sheet.{Sheet}
 use Rattle.page.specs.Scaled.{scaled}
@@ -30,7 +28,7 @@ pub record Firm (g : Ground) : Type 0 where
   pub of : GroundOf sheet (g .mode) g
   pub mode : g .mode ≤ 1
 
--- ---- the table of the form about the centre of a cell, and the verdict and the bend by it
+-- ---- the table of the form about the centre of a cell, and the verdict by its range
 abbrev pub half-in : Ground → ℕ → ℕ
 half-in g j = 2 ^ (g .s + g .k - j)
 
@@ -39,12 +37,4 @@ table-in g j p q =
     moved (g .form .degree) (held (g .form)) (g .across +ℤ pos ((2 * p + 1) * half-in g j)) (g .along +ℤ pos ((2 * q + 1) * half-in g j)) (pos (half-in g j))
 
 unfoldable pub verdicts-in : Ground → Verdicts
-verdicts-in g j p q = judged (lower-of (g .form .degree) (mode-of (g .mode)) (table-in g j p q)) (upper-of (g .form .degree) (mode-of (g .mode)) (table-in g j p q))
-
-unfoldable pub bend-in : Ground → ℕ → ℕ → ℕ → ℕ
-bend-in g j p q = bend-of (g .form .degree) (table-in g j p q)
-
--- `cell_range`
-pub record CellRanged (g : Ground) (j p q : ℕ) (r : Range) : Type 0 where
-  pub verdict : r .verdict ≡ verdicts-in g j p q
-  pub bend : r .bend ≡ bend-in g j p q
+verdicts-in g j p q = judged-by (range-of (g .form .degree) (mode-of (g .mode)) (table-in g j p q))

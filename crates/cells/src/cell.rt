@@ -1,15 +1,15 @@
-// The ground of a sheet, and the range of a cell on it.
+// The ground of a sheet, and the verdict on a cell of it.
 use crate::Ground;
 use crate::scale::scaled_form;
 use local::Form;
-use local::Range;
+use verdicts::Verdict;
 ghost use mathlib.Core.Path.{_≡_};
 ghost use Prim.Native.Nat.{_+_, _*_, _-_, _^_, _≤_, _<_};
 ghost use lib.IntN.{pos, _+ℤ_, _*ℤ_, natAbs};
 ghost use Rattle.page.specs.Scaled.{IsCell};
 ghost use Rattle.page.specs.Sheet.{sheet-of};
 ghost use Rattle.page.specs.Weight.{Accepted};
-ghost use Rattle.cells.specs.Cell.{Firm, GroundOf, CellRanged};
+ghost use Rattle.cells.specs.Cell.{Firm, GroundOf, verdicts-in};
 
 // 2^(k+1)·X, and so of Y
 fn corner(z: i32, k: u32) -> i64
@@ -70,15 +70,15 @@ fn centre(corner: i64, p: u32, h: i64) -> i64
     numbers::sum(corner, numbers::product(odd, h))
 }
 
-// The verdict on the cell at level j, column p, row q, and its bend.
-pub fn cell_range(ground: Ground, j: u32, p: u32, q: u32) -> Range
+// The verdict on the cell at level j, column p, row q.
+pub fn cell_verdict(ground: Ground, j: u32, p: u32, q: u32) -> Verdict
     requires { ⌜ Firm ground × IsCell (ground .k) j p q ⌝ }
-    ensures { λ r. ⌜ CellRanged ground j p q r ⌝ }
+    ensures { λ r. ⌜ r ≡ verdicts-in ground j p q ⌝ }
 {
     let h = half_side(ground.s, ground.k, j);
     let u = centre(ground.across, p, h);
     let v = centre(ground.along, q, h);
     let form = ground.form;
     let there = local::local_form(form, u, v, h);
-    local::local_range(there, ground.mode)
+    local::judge(local::local_range(there, ground.mode))
 }

@@ -1,10 +1,10 @@
-// What the calls are made of: the conditions that they share, what is worked out once for a sheet, and the range of a cell.
+// What the calls are made of: the conditions that they share, what is worked out once for a sheet, and the verdict on a cell.
 // An inner crate: what its functions require, every caller proves.
 mod cell;
 mod refusals;
 mod scale;
 
-pub use cell::cell_range;
+pub use cell::cell_verdict;
 pub use cell::ground_of;
 pub use cell::no_ground;
 use local::Form;

@@ -1,5 +1,4 @@
--- The range of a form: the two bounds, the bend and the verdict, for any table g(a,b), a + b ≤ d.
-use mathlib.Core.Path.{_≡_}
+-- The range of a form: the two bounds and the bend, for any table g(a,b), a + b ≤ d, and the verdict by a range.
 use mathlib.Core.Bool.{cond}
 use mathlib.Core.List.{List, [], _∷_}
 use Prim.Native.Nat.{ℕ, _+_, _-_, _^_, _≤_, _<_}
@@ -11,6 +10,7 @@ use Rattle.forms.specs.Bounds.{Mode, low, high, bent}
 use Rattle.local.specs.declared.Form.{Form}
 use Rattle.local.specs.declared.Range.{Range}
 use Rattle.local.specs.declared.Spread.{Spread}
+use Rattle.verdicts.specs.declared.Verdict.{Verdict}
 use Rattle.verdicts.specs.Judging.{judged}
 use Rattle.local.specs.Horner.{row-of}
 use Rattle.local.specs.Table.{held}
@@ -26,9 +26,15 @@ abbrev pub bend-of : ℕ → (ℕ → ℕ → ℤ) → ℕ
 bend-of d g = triangle d (λ a b. bent (a ∷ b ∷ []) (g a b))
 
 -- `local_range`
-pub record Ranged (d : ℕ) (mode : Mode) (g : ℕ → ℕ → ℤ) (r : Range) : Type 0 where
-  pub verdict : r .verdict ≡ judged (lower-of d mode g) (upper-of d mode g)
-  pub bend : r .bend ≡ bend-of d g
+abbrev pub ranged : ℤ → ℤ → ℕ → Range
+ranged lower upper bend = record { lower = lower; upper = upper; bend = bend }
+
+abbrev pub range-of : ℕ → Mode → (ℕ → ℕ → ℤ) → Range
+range-of d mode g = ranged (lower-of d mode g) (upper-of d mode g) (bend-of d g)
+
+-- `judge`
+abbrev pub judged-by : Range → Verdict
+judged-by r = judged (r .lower) (r .upper) (r .bend)
 
 -- the sizes of a form's places together leave room for it
 pub record Light (form : Form) : Type 0 where

@@ -5,9 +5,9 @@ mod measure;
 mod table;
 
 pub use measure::centre_of;
+pub use measure::judge;
 pub use measure::local_range;
 pub use table::local_form;
-use verdicts::Verdict;
 
 // The degree and 45 places, of which those not used are zero.
 pub struct Form {
@@ -22,8 +22,9 @@ pub struct Spread {
     pub bend: u64,
 }
 
-// A verdict with the bend.
+// The range of a form's values: the lower bound, the upper bound and the bend.
 pub struct Range {
-    pub verdict: Verdict,
+    pub lower: i64,
+    pub upper: i64,
     pub bend: u64,
 }

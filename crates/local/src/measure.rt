@@ -11,9 +11,8 @@ ghost use mathlib.Core.Bool.{cond};
 ghost use Rattle.local.specs.Horner.{at, row-of};
 ghost use Rattle.local.specs.Table.{held};
 ghost use Rattle.forms.specs.Plane.{even-pair};
-ghost use Rattle.verdicts.specs.Judging.{judged};
 ghost use Rattle.forms.specs.Bounds.{mode-of};
-ghost use Rattle.local.specs.Range.{part-of, both, Weighable, row-spread-of, Light, table-spread-of, Ranged};
+ghost use Rattle.local.specs.Range.{part-of, both, Weighable, row-spread-of, Light, table-spread-of, range-of, judged-by};
 
 // The even rule: mode 0, a and b both even.
 fn even_rule(mode: u32, a: usize, b: usize) -> bool
@@ -126,16 +125,19 @@ fn table_spread(form: Form, mode: u32) -> Spread
     sum
 }
 
-// Above, below or open, by the two bounds.
-fn judge(lower: i64, upper: i64) -> Verdict
-    ensures { λ r. ⌜ r ≡ judged lower upper ⌝ }
+// Above, below or open, by the two bounds; it carries them and the bend on.
+pub fn judge(range: Range) -> Verdict
+    ensures { λ r. ⌜ r ≡ judged-by range ⌝ }
 {
+    let lower = range.lower;
+    let upper = range.upper;
+    let bend = range.bend;
     if 0 < lower {
-        Verdict::Above { lower, upper }
+        Verdict::Above { lower, upper, bend }
     } else if upper < 0 {
-        Verdict::Below { lower, upper }
+        Verdict::Below { lower, upper, bend }
     } else {
-        Verdict::Open { lower, upper }
+        Verdict::Open { lower, upper, bend }
     }
 }
 
@@ -146,18 +148,18 @@ pub fn centre_of(form: Form) -> i64
     form.places[0]
 }
 
-// The verdict on a form, and its bend.
+// The two bounds of a form's values, and its bend.
 pub fn local_range(form: Form, mode: u32) -> Range
     requires { ⌜ (mode ≤ 1) × Light form ⌝ }
-    ensures { λ r. ⌜ Ranged (form .degree) (mode-of mode) (held form) r ⌝ }
+    ensures { λ r. ⌜ r ≡ range-of (form .degree) (mode-of mode) (held form) ⌝ }
 {
     let whole = table_spread(form, mode);
     let centre = centre_of(form);
     let lower = centre - whole.fall as i64;
     let upper = centre + whole.rise as i64;
-    let verdict = judge(lower, upper);
     Range {
-        verdict,
+        lower,
+        upper,
         bend: whole.bend,
     }
 }

@@ -1,5 +1,5 @@
 -- Demand 3 for the cells of a sheet.
-use mathlib.Core.Path.{_≡_, refl, sym, _∙_, subst}
+use mathlib.Core.Path.{_≡_, refl, sym, _∙_, ap, subst}
 use mathlib.Core.Bool.{Bool, true, false, not, cond}
 use mathlib.Core.List.{[], _∷_}
 use Prim.Native.Nat.{ℕ, _+_, _*_, _^_, _≤_}
@@ -22,10 +22,11 @@ use Rattle.forms.proofs.Plane.{both, pair-index, in-plane, value-pair, lower-fo
 use Rattle.forms.proofs.Size.{local-size, lower-size, upper-size, bend-size, box-limited, value-in-box-size}
 use Rattle.verdicts.specs.declared.Verdict.{Verdict}
 use Rattle.verdicts.specs.declared.Verdict.the-variants.{Above, Below, Open}
-use Rattle.verdicts.specs.Judging.{judged}
+use Rattle.verdicts.specs.Judging.{judged, carried-bend}
+use Rattle.verdicts.proofs.Judging.{judged-bend}
 use Rattle.page.specs.Sheet.{Sheet, A}
 use Rattle.page.specs.Scaled.{F, IsCell, InCell, half-side, U0, V0}
-use Rattle.page.specs.Bounds.{lower, upper, bend}
+use Rattle.page.specs.Bounds.{lower, upper, bend, verdict}
 use Rattle.page.specs.Weight.{R, weight, Accepted}
 use Rattle.page.specs.Demand3.{Contained, NoOvershoot, OneSign, OpenMeets, Fits64, CellFits, AllFit}
 use Rattle.page.proofs.Cells.{limit-u, limit-v}
@@ -42,15 +43,15 @@ module _ (S : Sheet) (j p q : ℕ) where
 
 -- ---- the verdict tells the bounds' signs
 abbrev Told : ℤ → ℤ → Verdict → Type 0
-Told x y (Above l u) = pos 0 <ℤ x
-Told x y (Below l u) = y <ℤ pos 0
-Told x y (Open l u) = (x ≤ℤ pos 0) × (pos 0 ≤ℤ y)
+Told x y (Above l u b) = pos 0 <ℤ x
+Told x y (Below l u b) = y <ℤ pos 0
+Told x y (Open l u b) = (x ≤ℤ pos 0) × (pos 0 ≤ℤ y)
 
-pub told : (x y : ℤ) → Told x y (judged x y)
+pub told : (x y : ℤ) (b : ℕ) → Told x y (judged x y b)
 unfolding judged
-told x y = go (ltZ (pos 0) x) (ltZ y (pos 0)) refl refl
+told x y b = go (ltZ (pos 0) x) (ltZ y (pos 0)) refl refl
   where
-    go : (s t : Bool) → ltZ (pos 0) x ≡ s → ltZ y (pos 0) ≡ t → Told x y (cond s (Above x y) (cond t (Below x y) (Open x y)))
+    go : (s t : Bool) → ltZ (pos 0) x ≡ s → ltZ y (pos 0) ≡ t → Told x y (cond s (Above x y b) (cond t (Below x y b) (Open x y b)))
     go true t w v = ltZ-yes (subst T (sym w) tt)
     go false true w v = ltZ-yes (subst T (sym v) tt)
     go false false w v = (ltZ-no (subst (λ b. T (not b)) (sym w) tt), ltZ-no (subst (λ b. T (not b)) (sym v) tt))
@@ -61,9 +62,9 @@ contained S mode j p q M N Q c = rw (lower-is S j p q mode, upper-is S j p q mod
 
 -- a cleared cell has one strict sign
 pub one-sign : OneSign
-one-sign S mode j p q M N Q o c l u =
+one-sign S mode j p q M N Q o c l u b =
     let signed = Box.strictly-signed (polynomial S) mode (centre S j p q) (half-side S j) (pair M N) Q o (in-box S j p q c) in
-    let tell = told (lower S mode j p q) (upper S mode j p q) in (
+    let tell = told (lower S mode j p q) (upper S mode j p q) (bend S j p q) in (
       λ e. rw (value-is S M N Q) (signed .0 (rw (lower-is S j p q mode) at (subst (Told (lower S mode j p q) (upper S mode j p q)) e tell))),
       λ e. rw (value-is S M N Q) (signed .1 (rw (upper-is S j p q mode) at (subst (Told (lower S mode j p q) (upper S mode j p q)) e tell))),
     )
@@ -78,10 +79,15 @@ no-overshoot S mode j p q = (
   λ m h. rw (upper-is S j p q mode, bend-is S j p q) (upper-four-corners (S .d) (2 ^ (S .k + 1)) (A S) (U0 S j p) (V0 S j q) (half-side S j) mode m (at-values S j p q (λ z. z ≤ℤ m) h)),
 )
 
+-- the bounds of an open cell hold 0 between them
+pub open-around : (S : Sheet) (mode : Bounds.Mode) (j p q : ℕ) {l u : ℤ} {b : ℕ} → verdict S mode j p q ≡ Open l u b → (lower S mode j p q ≤ℤ pos 0) × (pos 0 ≤ℤ upper S mode j p q)
+open-around S mode j p q e = subst (Told (lower S mode j p q) (upper S mode j p q)) e (told (lower S mode j p q) (upper S mode j p q) (bend S j p q))
+
 -- an open cell without bend meets the curve
 pub open-meets : OpenMeets
-open-meets S mode j p q l u e z =
-    let t = subst (Told (lower S mode j p q) (upper S mode j p q)) e (told (lower S mode j p q) (upper S mode j p q)) in
+open-meets S mode j p q l u e =
+    let t = open-around S mode j p q e in
+    let z = sym (judged-bend (lower S mode j p q) (upper S mode j p q) (bend S j p q)) ∙ ap carried-bend e in
     let m = meets (polynomial S) (centre S j p q) (half-side S j) (sym (bend-is S j p q) ∙ z) mode (rw (lower-is S j p q mode) at (t .0)) (rw (upper-is S j p q mode) at (t .1)) in
     record {
       M = m .x 0;

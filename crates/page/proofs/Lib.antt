@@ -7,6 +7,7 @@ pub mod Page
 pub mod Demand3
 pub mod Raster
 pub mod Cover
+pub mod Label
 pub mod Facts
 pub mod ReadFacts
 pub mod TextHeads

@@ -13,13 +13,17 @@ use lib.Signed.{_≤ℤ_}
 use Rattle.algebra.proofs.Absolute.{natAbs-bound, ≤ℤ-natAbs, -natAbs-≤ℤ}
 use Rattle.algebra.proofs.Order.{≤ℤ-by, ≤ℤ-trans, +ℤ-mono, negℤ-mono, pos-mono}
 use Rattle.algebra.proofs.Ring.{ring, _⊕_, _⊖_, _⊗_, ⊝_, #_, _≐_}
+use Rattle.forms.specs.Bounds.{Mode}
 use Rattle.verdicts.specs.declared.Verdict.{Verdict}
 use Rattle.verdicts.specs.declared.Verdict.the-variants.{Above, Below, Open}
-use Rattle.verdicts.specs.Walking.{is-open}
+use Rattle.verdicts.specs.Judging.{carried-bend}
+use Rattle.verdicts.specs.Walking.{is-open, colour}
+use Rattle.verdicts.proofs.Judging.{judged-bend}
 use Rattle.verdicts.proofs.Reasons.{colour-above, colour-below, coloured-all-open}
 use Rattle.verdicts.proofs.Bytes.{raster-byte}
+use Rattle.page.specs.Sheet.{Sheet}
 use Rattle.page.specs.Scaled.{half-side, InCell}
-use Rattle.page.specs.Bounds.{verdict}
+use Rattle.page.specs.Bounds.{lower, upper, bend, verdict}
 use Rattle.page.specs.Refusals.{Given, not-given, given, if-given, Row, table, first}
 use Rattle.page.specs.Raster.{Encloses, WhiteSigned, ColouredMeets, RasterSigned, RasterMeets, NeverTooMany, NeverNine}
 use Rattle.page.proofs.Rows.{no-row-9}
@@ -69,21 +73,24 @@ encloses S l j p q h i M N Q c = record { across = rw longer (axis (S .X) M p (c
 pub white-signed : WhiteSigned
 white-signed S mode p q M N Q o i =
     let inside : (l : ℕ) → l ≤ S .k → InCell S l (p / 2 ^ (S .k - l)) (q / 2 ^ (S .k - l)) M N Q = λ l h. encloses S l (S .k) p q h (Nat.le-refl (S .k)) M N Q i in (
-      λ e. let w = colour-above (verdict S mode) (S .k) p q e in one-sign S mode (w .level) _ _ M N Q o (inside (w .level) (w .within)) (w .lower) (w .upper) .0 (w .judged),
-      λ e. let w = colour-below (verdict S mode) (S .k) p q e in one-sign S mode (w .level) _ _ M N Q o (inside (w .level) (w .within)) (w .lower) (w .upper) .1 (w .judged),
+      λ e. let w = colour-above (verdict S mode) (S .k) p q e in one-sign S mode (w .level) _ _ M N Q o (inside (w .level) (w .within)) (w .lower) (w .upper) (w .bend) .0 (w .judged),
+      λ e. let w = colour-below (verdict S mode) (S .k) p q e in one-sign S mode (w .level) _ _ M N Q o (inside (w .level) (w .within)) (w .lower) (w .upper) (w .bend) .1 (w .judged),
     )
 
-open-is : (w : Verdict) → is-open w ≡ true → (l : ℤ) × (u : ℤ) × (w ≡ Open l u)
-open-is (Above l u) e = absurd (false≢true e)
-open-is (Below l u) e = absurd (false≢true e)
-open-is (Open l u) e = (l, u, refl)
+open-is : (w : Verdict) → is-open w ≡ true → (l : ℤ) × (u : ℤ) × (w ≡ Open l u (carried-bend w))
+open-is (Above l u b) e = absurd (false≢true e)
+open-is (Below l u b) e = absurd (false≢true e)
+open-is (Open l u b) e = (l, u, refl)
 
 -- a coloured cell is open itself
-pub coloured-meets : ColouredMeets
-coloured-meets S mode p q e z =
+pub coloured-open : (S : Sheet) (mode : Mode) (p q : ℕ) → colour (verdict S mode) (S .k) p q ≡ 1 → (l : ℤ) × (u : ℤ) × (verdict S mode (S .k) p q ≡ Open l u (bend S (S .k) p q))
+coloured-open S mode p q e =
     let n : S .k - S .k ≡ 0 = omega arith in
     let w = open-is (verdict S mode (S .k) p q) (rw (n, Nat.div-one p, Nat.div-one q) at (coloured-all-open (verdict S mode) (S .k) p q e (S .k) (Nat.le-refl (S .k)))) in
-    open-meets S mode (S .k) p q (w .0) (w .1) (w .2) z
+    (w .0, w .1, w .2 ∙ ap (Open (w .0) (w .1)) (judged-bend (lower S mode (S .k) p q) (upper S mode (S .k) p q) (bend S (S .k) p q)))
+
+pub coloured-meets : ColouredMeets
+coloured-meets S mode p q e z = let w = coloured-open S mode p q e in open-meets S mode (S .k) p q (w .0) (w .1) (w .2 ∙ ap (Open (w .0) (w .1)) z)
 
 -- ---- by the raster's byte, which is the colour
 pub raster-signed : RasterSigned

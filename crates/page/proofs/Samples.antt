@@ -7,7 +7,7 @@ use lib.IntN.{ℤ, pos, negsuc, pow, one}
 use lib.ListN.{replicate}
 use Rattle.algebra.specs.Sum.{sum, sumℕ, run, span, _⋯_}
 use Rattle.algebra.specs.Binomial.{choose}
-use Rattle.algebra.specs.MinMax.{minℤ, maxℤ}
+use Rattle.algebra.specs.MinMax.{minℤ, maxℤ, largest}
 use Rattle.algebra.specs.Triangle.{row-start}
 use Rattle.forms.specs.Bounds.{affine, centred}
 use Rattle.verdicts.specs.Judging.{judged}
@@ -16,8 +16,8 @@ use Rattle.page.specs.Sheet.{Sheet, A}
 use Rattle.page.specs.CheckedSheets.{square, P1, P4, P5, P7, P9, P10}
 use Rattle.page.specs.Scaled.{F, value-at, half-side, U0, V0, InCell}
 use Rattle.page.specs.LocalForm.{G}
-use Rattle.page.specs.Bounds.{lower, upper, verdict}
-use Rattle.verdicts.specs.Walking.{colour, raster, visited, coloured}
+use Rattle.page.specs.Bounds.{lower, upper, bend, verdict}
+use Rattle.verdicts.specs.Walking.{colour, raster, visited, coloured, largest-bend}
 use Rattle.page.specs.Weight.{R, weight}
 use Rattle.page.specs.Refusals.{to-check, at-point, in-cell, to-walk, table, first, refusal}
 
@@ -47,8 +47,8 @@ unfolding pow one sum sumℕ run span _⋯_ choose row-start G
 form-P1 = (refl, refl, refl, refl)
 
 -- touching a corner counts: a lower bound of 0 is open
-verdicts : (verdict P1 affine 0 0 0 ≡ Above (pos 16) (pos 144)) × (verdict P4 affine 1 1 0 ≡ Open (pos 0) (pos 4)) × (verdict P7 centred 7 127 0 ≡ Below (negsuc 4) (negsuc 4))
-unfolding pow one sum sumℕ run span _⋯_ choose minℤ maxℤ row-start judged G lower upper
+verdicts : (verdict P1 affine 0 0 0 ≡ Above (pos 16) (pos 144) 128) × (verdict P4 affine 1 1 0 ≡ Open (pos 0) (pos 4) 0) × (verdict P7 centred 7 127 0 ≡ Below (negsuc 4) (negsuc 4) 0)
+unfolding pow one sum sumℕ run span _⋯_ choose minℤ maxℤ row-start judged G lower upper bend
 verdicts = (refl, refl, refl)
 
 -- ---- weight
@@ -82,6 +82,11 @@ walks : (visited (verdict P5 affine) 2 ≡ 21) × (coloured (verdict P5 affine) 
     × (raster (verdict P5 centred) 2 ≡ 1 ∷ 1 ∷ 2 ∷ 2 ∷ 1 ∷ 1 ∷ 1 ∷ 2 ∷ 3 ∷ 1 ∷ 1 ∷ 1 ∷ 3 ∷ 3 ∷ 1 ∷ 1 ∷ []) × (visited (verdict (square 2 (P1 .coefficients) (negsuc 0) 1 2) affine) 2 ≡ 1)
 unfolding pow one sum sumℕ run span _⋯_ choose minℤ maxℤ row-start judged G lower upper colour raster visited coloured
 walks = (refl, refl, refl, refl, refl)
+
+-- the label's bend (#101): 32 in each of P1's four cells in mode 1, none coloured in mode 0; P9's one cell; P5 is straight
+bends : (largest-bend (verdict P1 centred) 1 ≡ 32) × (largest-bend (verdict P1 affine) 1 ≡ 0) × (largest-bend (verdict P9 affine) 0 ≡ 1) × (largest-bend (verdict P5 affine) 2 ≡ 0)
+unfolding pow one sum sumℕ largest run span _⋯_ choose minℤ maxℤ row-start judged G lower upper bend colour largest-bend
+bends = (refl, refl, refl, refl)
 
 places-refused : (refusal (to-walk P4 0 3) ≡ 7) × (refusal (to-walk P4 0 4) ≡ 0) × (refusal (to-walk P4 1 5) ≡ 0) × (refusal (to-walk P4 2 3) ≡ 5)
 unfolding pow one sum sumℕ run span _⋯_ choose minℤ maxℤ row-start judged G lower upper weight visited table first

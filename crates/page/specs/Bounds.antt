@@ -31,6 +31,6 @@ upper S mode j p q = sum (0 ⋯ (S .d)) (λ a. sum (0 ⋯ (S .d - a)) (λ b. hig
 unfoldable pub bend : Sheet → ℕ → ℕ → ℕ → ℕ
 bend S j p q = sumℕ (0 ⋯ (S .d)) (λ a. sumℕ (0 ⋯ (S .d - a)) (λ b. cond (leb 2 (a + b)) (natAbs (G S j p q a b)) 0))
 
--- the verdict is above (lower bound > 0), below (upper bound < 0), or open; each carries both bounds
+-- the verdict is above (lower bound > 0), below (upper bound < 0), or open; each carries both bounds and the bend (#101)
 abbrev pub verdict : Sheet → Mode → ℕ → ℕ → ℕ → Verdict
-verdict S mode j p q = judged (lower S mode j p q) (upper S mode j p q)
+verdict S mode j p q = judged (lower S mode j p q) (upper S mode j p q) (bend S j p q)

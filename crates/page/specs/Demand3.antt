@@ -17,20 +17,24 @@ abbrev pub Contained : Type 0
 Contained = (S : Sheet) (mode : Mode) (j p q : ℕ) (M N : ℤ) (Q : ℕ) → InCell S j p q M N Q →
     ((pos (Q ^ S .d) *ℤ lower S mode j p q) ≤ℤ value-at S M N Q) × (value-at S M N Q ≤ℤ (pos (Q ^ S .d) *ℤ upper S mode j p q))
 
--- no bound overshoots the extreme corner value on its side by more than twice the bend: m - 2 bend ≤ lower for every m that is at most the four corner values, and likewise above
+-- neither bound lies further beyond the extreme corner value on its side than n: m - n ≤ lower for every m that is at most the four corner values, and likewise above
+abbrev pub NearCorners : Sheet → Mode → ℕ → ℕ → ℕ → ℕ → Type 0
+NearCorners S mode j p q n =
+    ((m : ℤ) → AtCorners (U0 S j p) (V0 S j q) (half-side S j) (λ u v. m ≤ℤ F S u v) → (m -ℤ pos n) ≤ℤ lower S mode j p q)
+    × ((m : ℤ) → AtCorners (U0 S j p) (V0 S j q) (half-side S j) (λ u v. F S u v ≤ℤ m) → upper S mode j p q ≤ℤ (m +ℤ pos n))
+
+-- no bound overshoots the extreme corner value on its side by more than twice the bend
 abbrev pub NoOvershoot : Type 0
-NoOvershoot = (S : Sheet) (mode : Mode) (j p q : ℕ) →
-    ((m : ℤ) → AtCorners (U0 S j p) (V0 S j q) (half-side S j) (λ u v. m ≤ℤ F S u v) → (m -ℤ pos (2 * bend S j p q)) ≤ℤ lower S mode j p q)
-    × ((m : ℤ) → AtCorners (U0 S j p) (V0 S j q) (half-side S j) (λ u v. F S u v ≤ℤ m) → upper S mode j p q ≤ℤ (m +ℤ pos (2 * bend S j p q)))
+NoOvershoot = (S : Sheet) (mode : Mode) (j p q : ℕ) → NearCorners S mode j p q (2 * bend S j p q)
 
 -- a cleared cell has one strict sign throughout
 abbrev pub OneSign : Type 0
-OneSign = (S : Sheet) (mode : Mode) (j p q : ℕ) (M N : ℤ) (Q : ℕ) → 1 ≤ Q → InCell S j p q M N Q → (l u : ℤ) →
-    (verdict S mode j p q ≡ Above l u → pos 0 <ℤ value-at S M N Q) × (verdict S mode j p q ≡ Below l u → value-at S M N Q <ℤ pos 0)
+OneSign = (S : Sheet) (mode : Mode) (j p q : ℕ) (M N : ℤ) (Q : ℕ) → 1 ≤ Q → InCell S j p q M N Q → (l u : ℤ) (b : ℕ) →
+    (verdict S mode j p q ≡ Above l u b → pos 0 <ℤ value-at S M N Q) × (verdict S mode j p q ≡ Below l u b → value-at S M N Q <ℤ pos 0)
 
 -- an open cell without bend meets the curve
 abbrev pub OpenMeets : Type 0
-OpenMeets = (S : Sheet) (mode : Mode) (j p q : ℕ) (l u : ℤ) → verdict S mode j p q ≡ Open l u → bend S j p q ≡ 0 → MeetsCurve S j p q
+OpenMeets = (S : Sheet) (mode : Mode) (j p q : ℕ) (l u : ℤ) → verdict S mode j p q ≡ Open l u 0 → MeetsCurve S j p q
 
 -- ---- what fits in 64 signed bits
 abbrev pub Fits64 : ℤ → Type 0

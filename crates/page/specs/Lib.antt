@@ -15,4 +15,5 @@ pub mod ReadFacts
 pub mod Demand3
 pub mod Raster
 pub mod Cover
+pub mod Label
 pub mod Steps

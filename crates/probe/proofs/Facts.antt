@@ -58,13 +58,13 @@ module _ (S : Sheet) (mode j p q : ℕ) (r : Bounded) (h : BoundsPromise S mode 
   unfolding measured
   stated e = h .1 ∙ sym (unless-none _ _ _ e)
 
-  -- and where it carries a verdict and a bend they are the page's
-  carried : (v : Verdict) (n : ℕ) → r ≡ Bounded.Cell v n → (verdict S (mode-of mode) j p q ≡ v) × (bend S j p q ≡ n)
+  -- and where it carries a verdict it is the page's
+  carried : (v : Verdict) → r ≡ Bounded.Cell v → verdict S (mode-of mode) j p q ≡ v
   unfolding bounded
-  carried v n e = by (refusal (in-cell S mode j p q)) (sym (h .0) ∙ e)
+  carried v e = by (refusal (in-cell S mode j p q)) (sym (h .0) ∙ e)
     where
-      by : (m : ℕ) {w : Verdict} {b : ℕ} → unless m Bounded.Refused (Bounded.Cell w b) ≡ Bounded.Cell v n → (w ≡ v) × (b ≡ n)
-      by zero e = ((cc), (cc))
+      by : (m : ℕ) {w : Verdict} → unless m Bounded.Refused (Bounded.Cell w) ≡ Bounded.Cell v → w ≡ v
+      by zero e = cc
       by (suc m) e = let z : _≡_ {A = ℕ} 0 1 = cc in absurd (omega arith)
 
 pub answered-contains : AnsweredContains
@@ -74,11 +74,11 @@ pub answered-near : AnsweredNear
 answered-near S mode j p q r h e = rw (stated S mode j p q r h e) (no-overshoot S (mode-of mode) j p q)
 
 pub answered-signed : AnsweredSigned
-answered-signed S mode j p q r h M N Q o c l u n =
-    let s = one-sign S (mode-of mode) j p q M N Q o c l u in (λ e. s .0 (carried S mode j p q r h (Above l u) n e .0), λ e. s .1 (carried S mode j p q r h (Below l u) n e .0))
+answered-signed S mode j p q r h M N Q o c l u b =
+    let s = one-sign S (mode-of mode) j p q M N Q o c l u b in (λ e. s .0 (carried S mode j p q r h (Above l u b) e), λ e. s .1 (carried S mode j p q r h (Below l u b) e))
 
 pub answered-meets : AnsweredMeets
-answered-meets S mode j p q r h l u e = let c = carried S mode j p q r h (Open l u) 0 e in open-meets S (mode-of mode) j p q l u (c .0) (c .1)
+answered-meets S mode j p q r h l u e = open-meets S (mode-of mode) j p q l u (carried S mode j p q r h (Open l u 0) e)
 
 -- ---- corners
 -- `value` is refused at no whole-number point of a cell of an accepted sheet

@@ -26,12 +26,12 @@ pub value-states : (S : Sheet) (u v : ℤ) → states-value (valued S u v) ≡ e
 unfolding valued evaluated
 value-states S u v = unless-ap states-value (refusal (at-point S u v)) _ _
 
--- a verdict states both bounds, whichever it is
-verdict-states : (l u : ℤ) (n : ℕ) → states-bounds (Cell (judged l u) n) ≡ record { number = 0; lower = l; upper = u; bend = n }
+-- a verdict states both bounds and the bend, whichever it is
+verdict-states : (l u : ℤ) (b : ℕ) → states-bounds (Cell (judged l u b)) ≡ record { number = 0; lower = l; upper = u; bend = b }
 unfolding judged
-verdict-states l u n = go (ltZ (pos 0) l) (ltZ u (pos 0))
+verdict-states l u b = go (ltZ (pos 0) l) (ltZ u (pos 0))
   where
-    go : (s t : Bool) → states-bounds (Cell (cond s (Above l u) (cond t (Below l u) (Open l u))) n) ≡ record { number = 0; lower = l; upper = u; bend = n }
+    go : (s t : Bool) → states-bounds (Cell (cond s (Above l u b) (cond t (Below l u b) (Open l u b)))) ≡ record { number = 0; lower = l; upper = u; bend = b }
     go true t = refl
     go false true = refl
     go false false = refl

@@ -49,7 +49,7 @@ evaluated S u v = unless (refusal (at-point S u v)) (λ n. record { number = n; 
 
 -- ---- bounds and bend of a cell
 unfoldable pub bounded : Sheet → ℕ → ℕ → ℕ → ℕ → Bounded
-bounded S mode j p q = unless (refusal (in-cell S mode j p q)) Bounded.Refused (Bounded.Cell (verdict S (mode-of mode) j p q) (bend S j p q))
+bounded S mode j p q = unless (refusal (in-cell S mode j p q)) Bounded.Refused (Bounded.Cell (verdict S (mode-of mode) j p q))
 
 -- the number, the two bounds and the bend that each case states, and those of the page
 pub record Measured : Type 0 where
@@ -59,9 +59,9 @@ pub record Measured : Type 0 where
   pub bend : ℕ
 
 abbrev pub states-bounds : Bounded → Measured
-states-bounds (Bounded.Cell (Above l u) n) = record { number = 0; lower = l; upper = u; bend = n }
-states-bounds (Bounded.Cell (Below l u) n) = record { number = 0; lower = l; upper = u; bend = n }
-states-bounds (Bounded.Cell (Open l u) n) = record { number = 0; lower = l; upper = u; bend = n }
+states-bounds (Bounded.Cell (Above l u b)) = record { number = 0; lower = l; upper = u; bend = b }
+states-bounds (Bounded.Cell (Below l u b)) = record { number = 0; lower = l; upper = u; bend = b }
+states-bounds (Bounded.Cell (Open l u b)) = record { number = 0; lower = l; upper = u; bend = b }
 states-bounds (Bounded.Refused n) = record { number = n; lower = pos 0; upper = pos 0; bend = 0 }
 
 unfoldable pub measured : Sheet → ℕ → ℕ → ℕ → ℕ → Measured

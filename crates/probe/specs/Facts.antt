@@ -50,12 +50,12 @@ AnsweredNear = (S : Sheet) (mode j p q : ℕ) (r : Bounded) → BoundsPromise S 
 
 -- where the verdict that it carries is above every value in the cell is positive, and where it is below negative
 abbrev pub AnsweredSigned : Type 0
-AnsweredSigned = (S : Sheet) (mode j p q : ℕ) (r : Bounded) → BoundsPromise S mode j p q r → (M N : ℤ) (Q : ℕ) → 1 ≤ Q → InCell S j p q M N Q → (l u : ℤ) (n : ℕ) →
-    (r ≡ Cell (Above l u) n → pos 0 <ℤ value-at S M N Q) × (r ≡ Cell (Below l u) n → value-at S M N Q <ℤ pos 0)
+AnsweredSigned = (S : Sheet) (mode j p q : ℕ) (r : Bounded) → BoundsPromise S mode j p q r → (M N : ℤ) (Q : ℕ) → 1 ≤ Q → InCell S j p q M N Q → (l u : ℤ) (b : ℕ) →
+    (r ≡ Cell (Above l u b) → pos 0 <ℤ value-at S M N Q) × (r ≡ Cell (Below l u b) → value-at S M N Q <ℤ pos 0)
 
 -- where it is open and the bend is 0, the cell meets the curve
 abbrev pub AnsweredMeets : Type 0
-AnsweredMeets = (S : Sheet) (mode j p q : ℕ) (r : Bounded) → BoundsPromise S mode j p q r → (l u : ℤ) → r ≡ Cell (Open l u) 0 → MeetsCurve S j p q
+AnsweredMeets = (S : Sheet) (mode j p q : ℕ) (r : Bounded) → BoundsPromise S mode j p q r → (l u : ℤ) → r ≡ Cell (Open l u 0) → MeetsCurve S j p q
 
 -- ---- where `bounds` is not refused, `value` is refused at no corner of the cell
 abbrev pub CornersAnswered : Type 0

@@ -18,9 +18,9 @@ pub enum Valued {
     Refused(u32),
 }
 
-// The verdict on the cell, with both bounds, and the bend; or a refusal.
+// The verdict on the cell, with both bounds and the bend; or a refusal.
 pub enum Bounded {
-    Cell { verdict: Verdict, bend: u64 },
+    Cell(Verdict),
     Refused(u32),
 }
 
@@ -75,10 +75,6 @@ pub fn bounds(
         return Bounded::Refused(refusal);
     }
     let ground = cells::ground_of(d, coefficients, x, y, s, k, mode);
-    let range = cells::cell_range(ground, j, p, q);
-    let verdict = range.verdict;
-    Bounded::Cell {
-        verdict,
-        bend: range.bend,
-    }
+    let verdict = cells::cell_verdict(ground, j, p, q);
+    Bounded::Cell(verdict)
 }

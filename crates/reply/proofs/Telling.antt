@@ -10,7 +10,7 @@ use lib.Dec.{T}
 use lib.IntN.{pos}
 use lib.ListN.{length, take, drop, replicate, length-append, length-drop}
 use lib.Seq.{take-at}
-use Rattle.verdicts.specs.Walking.{Verdicts, records, visited, coloured}
+use Rattle.verdicts.specs.Walking.{Verdicts, records, visited, coloured, largest-bend}
 use Rattle.verdicts.proofs.Bounds.{power-small}
 use Rattle.verdicts.proofs.Lengths.{listing-long}
 use Rattle.page.specs.Sheet.{count, sheet-of}
@@ -34,7 +34,7 @@ use Rattle.reply.specs.Steps.{FromText}
 
 -- a refusal and not records
 abbrev is-refused : Listed → Bool
-is-refused (Listed.Records l v c) = false
+is-refused (Listed.Records l v c b) = false
 is-refused (Listed.Refused n) = true
 
 -- ---- the sheet that is walked is the one that the text says
@@ -75,7 +75,7 @@ module _ (w : Said) (passed : refusal (to-read w) ≡ 0) where
   few = let k = fine .ranges .depth in Nat.le-trans (listing-long seen (w .k) .2) (power-small k)
 
   module _ (old : List ℕ) {now : List ℕ} (long : length old ≡ 16_384) {r : Listed} (p : ListingPromise (sheet-in w) (w .mode) old r now) where
-    answered : r ≡ Listed.Records (length told) (visited seen (w .k)) (coloured seen (w .k))
+    answered : r ≡ Listed.Records (length told) (visited seen (w .k)) (coloured seen (w .k)) (largest-bend seen (w .k))
     unfolding listed
     answered = p .0 ∙ sym (unless-none Listed.Refused _ _ (walks long))
 
@@ -93,8 +93,8 @@ module _ (w : Said) (passed : refusal (to-read w) ≡ 0) where
     pub not-refused : {n : ℕ} → r ≡ Listed.Refused n → ⊥
     not-refused e = subst T (sym (ap is-refused e) ∙ ap is-refused answered) tt
 
-    module _ {l v c : ℕ} (e : r ≡ Listed.Records l v c) where
-      same : Listed.Records l v c ≡ Listed.Records (length told) (visited seen (w .k)) (coloured seen (w .k))
+    module _ {l v c b : ℕ} (e : r ≡ Listed.Records l v c b) where
+      same : Listed.Records l v c b ≡ Listed.Records (length told) (visited seen (w .k)) (coloured seen (w .k)) (largest-bend seen (w .k))
       same = sym e ∙ answered
 
       long-as : l ≡ length told

@@ -57,6 +57,7 @@ fn list(sheet: Reading, place: &mut [u8]) -> usize
             length,
             visited,
             coloured,
+            ..
         } => writing::write_listing(place, &records[..length], visited, coloured),
         Listed::Refused(number) => writing::write_refusal(place, number, 0),
     }

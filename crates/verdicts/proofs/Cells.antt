@@ -8,8 +8,9 @@ use native.Mathlib.Omega.{arith}
 use lib.Dec.{eqb}
 use Rattle.verdicts.specs.declared.Verdict.{Verdict}
 use Rattle.verdicts.specs.declared.Verdict.the-variants.{Above, Below, Open}
+use Rattle.verdicts.specs.Judging.{carried-bend}
 use Rattle.verdicts.specs.Walking.{Verdicts, is-open, colour-of, in-turn, record-of}
-use Rattle.verdicts.specs.Operational.{by-verdict, four, visited-from, coloured-from, records-from, colour-from}
+use Rattle.verdicts.specs.Operational.{by-verdict, four, largest-four, visited-from, coloured-from, bend-from, records-from, colour-from}
 
 -- ---- the two kinds of verdict
 -- cleared with the colour c, which is not that of a coloured cell
@@ -29,30 +30,30 @@ pub data Kind (w : Verdict) : Type 0 where
   opens : Opened w → Kind w
 
 -- what a verdict that is known says
-pub cleared-above : {l u : _} {w : Verdict} → Above l u ≡ w → Cleared w 2
+pub cleared-above : {l u b : _} {w : Verdict} → Above l u b ≡ w → Cleared w 2
 cleared-above e = rw (← e) (record { closed = refl; painted = refl; plain = refl })
 
-pub cleared-below : {l u : _} {w : Verdict} → Below l u ≡ w → Cleared w 3
+pub cleared-below : {l u b : _} {w : Verdict} → Below l u b ≡ w → Cleared w 3
 cleared-below e = rw (← e) (record { closed = refl; painted = refl; plain = refl })
 
-opened : {l u : _} {w : Verdict} → Open l u ≡ w → Opened w
+opened : {l u b : _} {w : Verdict} → Open l u b ≡ w → Opened w
 opened e = rw (← e) (record { free = refl; coloured = refl })
 
 pub kind : (w : Verdict) → Kind w
-kind (Above l u) = clears 2 (cleared-above refl)
-kind (Below l u) = clears 3 (cleared-below refl)
-kind (Open l u) = opens (opened refl)
+kind (Above l u b) = clears 2 (cleared-above refl)
+kind (Below l u b) = clears 3 (cleared-below refl)
+kind (Open l u b) = opens (opened refl)
 
 -- ---- what depends on a verdict, by its kind
 pub by-cleared : {X : Type 0} {w : Verdict} {c : ℕ} → Cleared w c → (f : ℕ → X) (o : X) → by-verdict w f o ≡ f c
-by-cleared {w = Above l u} s f o = ap f (s .painted)
-by-cleared {w = Below l u} s f o = ap f (s .painted)
-by-cleared {w = Open l u} s f o = absurd (true≢false (s .closed))
+by-cleared {w = Above l u b} s f o = ap f (s .painted)
+by-cleared {w = Below l u b} s f o = ap f (s .painted)
+by-cleared {w = Open l u b} s f o = absurd (true≢false (s .closed))
 
 pub by-opened : {X : Type 0} {w : Verdict} → Opened w → (f : ℕ → X) (o : X) → by-verdict w f o ≡ o
-by-opened {w = Above l u} s f o = absurd (false≢true (s .free))
-by-opened {w = Below l u} s f o = absurd (false≢true (s .free))
-by-opened {w = Open l u} s f o = refl
+by-opened {w = Above l u b} s f o = absurd (false≢true (s .free))
+by-opened {w = Below l u b} s f o = absurd (false≢true (s .free))
+by-opened {w = Open l u b} s f o = refl
 
 -- ---- what examining a cell gives
 -- of a cleared cell
@@ -66,6 +67,11 @@ module _ (v : Verdicts) (level p q : ℕ) {c : ℕ} (s : Cleared (v level p q) c
   unfolding coloured-from
   coloured-cleared zero = by-cleared s (λ c. 0) _
   coloured-cleared (suc n) = by-cleared s (λ c. 0) _
+
+  pub bend-cleared : (n : ℕ) → bend-from v level n p q ≡ 0
+  unfolding bend-from
+  bend-cleared zero = by-cleared s (λ c. 0) _
+  bend-cleared (suc n) = by-cleared s (λ c. 0) _
 
   pub records-cleared : (n : ℕ) → records-from v level n p q ≡ record-of c level p q ∷ []
   unfolding records-from
@@ -83,6 +89,10 @@ module _ (v : Verdicts) (level p q : ℕ) (s : Opened (v level p q)) where
   unfolding coloured-from
   coloured-last = by-opened s (λ c. 0) 1
 
+  pub bend-last : bend-from v level 0 p q ≡ carried-bend (v level p q)
+  unfolding bend-from
+  bend-last = by-opened s (λ c. 0) _
+
   pub records-last : records-from v level 0 p q ≡ record-of 1 level p q ∷ []
   unfolding records-from
   records-last = by-opened s (λ c. record-of c level p q ∷ []) _
@@ -98,6 +108,10 @@ module _ (v : Verdicts) (level p q : ℕ) (s : Opened (v level p q)) where
   pub coloured-open : (n : ℕ) → coloured-from v level (suc n) p q ≡ four (coloured-from v (level + 1) n) p q
   unfolding coloured-from
   coloured-open n = by-opened s (λ c. 0) _
+
+  pub bend-open : (n : ℕ) → bend-from v level (suc n) p q ≡ largest-four (bend-from v (level + 1) n) p q
+  unfolding bend-from
+  bend-open n = by-opened s (λ c. 0) _
 
   pub records-open : (n : ℕ) → records-from v level (suc n) p q ≡ in-turn (records-from v (level + 1) n) p q
   unfolding records-from

@@ -16,9 +16,9 @@ use Rattle.verdicts.proofs.Cells.{Cleared, Opened, by-cleared, by-opene
 
 -- ---- the first verdict decides, or leaves it to the later ones
 colour-first : (w : Verdict) (ws : List Verdict) → by-verdict w (λ c. c) (colour-of ws) ≡ colour-of (w ∷ ws)
-colour-first (Above l u) ws = refl
-colour-first (Below l u) ws = refl
-colour-first (Open l u) ws = refl
+colour-first (Above l u b) ws = refl
+colour-first (Below l u b) ws = refl
+colour-first (Open l u b) ws = refl
 
 pub first-cleared : {w : Verdict} {c : ℕ} → Cleared w c → (ws : List Verdict) → colour-of (w ∷ ws) ≡ c
 first-cleared {w} s ws = sym (colour-first w ws) ∙ by-cleared s (λ c. c) (colour-of ws)
@@ -45,15 +45,15 @@ colour-is v k x y = colour-down v k 0 k x y (Nat.zero-add k) ∙ ap (λ ls. colo
 -- ---- a colour is 1, 2 or 3
 pub colour-of-small : (ws : List Verdict) → colour-of ws ≤ 3
 colour-of-small [] = lit≤ tt
-colour-of-small (Above l u ∷ ws) = lit≤ tt
-colour-of-small (Below l u ∷ ws) = lit≤ tt
-colour-of-small (Open l u ∷ ws) = colour-of-small ws
+colour-of-small (Above l u b ∷ ws) = lit≤ tt
+colour-of-small (Below l u b ∷ ws) = lit≤ tt
+colour-of-small (Open l u b ∷ ws) = colour-of-small ws
 
 colour-of-some : (ws : List Verdict) → 1 ≤ colour-of ws
 colour-of-some [] = lit≤ tt
-colour-of-some (Above l u ∷ ws) = lit≤ tt
-colour-of-some (Below l u ∷ ws) = lit≤ tt
-colour-of-some (Open l u ∷ ws) = colour-of-some ws
+colour-of-some (Above l u b ∷ ws) = lit≤ tt
+colour-of-some (Below l u b ∷ ws) = lit≤ tt
+colour-of-some (Open l u b ∷ ws) = colour-of-some ws
 
 pub colour-one-of : (v : Verdicts) (k p q : ℕ) → (1 ≤ colour v k p q) × (colour v k p q ≤ 3)
 unfolding colour

@@ -1,4 +1,5 @@
 pub mod Samples
+pub mod Judging
 pub mod Cells
 pub mod Lists
 pub mod Parts
@@ -7,6 +8,7 @@ pub mod Colours
 pub mod Squares
 pub mod Levels
 pub mod Tallies
+pub mod Bends
 pub mod Listing
 pub mod Lengths
 pub mod Counts

@@ -4,14 +4,14 @@ use mathlib.Core.Bool.{Bool, true, false, _||_}
 use mathlib.Core.List.{List, map, map-append, List·Memᴰ}
 use Prim.Native.Nat.{ℕ, suc, _+_, _*_, _/_, _^_, _≤_}
 use native.Mathlib.Numerals.{add-one}
-use native.Mathlib.Decide.{ℕ-discrete}
+use native.Mathlib.Decide.{ℕ-discrete, decLe}
 use native.Mathlib.Omega.{arith}
 use lib.Dec.{eqb}
 use lib.ListN.{length, length-append}
 use lib.Pow.{shr-shr}
 use borrow.Author.Tests.{eq-eqb, ne-eqb}
 use Rattle.verdicts.specs.Walking.{in-turn, those}
-use Rattle.verdicts.specs.Operational.{four}
+use Rattle.verdicts.specs.Operational.{four, largest-four}
 use Rattle.verdicts.proofs.Lists.{++-member, those-++}
 
 -- a property of each of the four
@@ -67,6 +67,22 @@ four-cong f g p q h = let e = parts (λ a b. f a b ≡ g a b) p q h in omega ari
 
 pub four-bound : (g : ℕ → ℕ → ℕ) (p q m : ℕ) → ((a b : ℕ) → a / 2 ≡ p → b / 2 ≡ q → g a b ≤ m) → four g p q ≤ 4 * m
 four-bound g p q m h = let e = parts (λ a b. g a b ≤ m) p q h in omega arith
+
+-- ---- the largest of the four: each is at most it, and it is at most what each is at most
+pub part-at-most : (g : ℕ → ℕ → ℕ) (p q a b : ℕ) → a / 2 ≡ p → b / 2 ≡ q → g a b ≤ largest-four g p q
+part-at-most g p q a b e f = elim (decLe a (2 * p)) [
+  | yes i ↦ let x : a ≡ 2 * p = omega arith in rw x (rows (2 * p) (omega arith) (omega arith))
+  | no i ↦ let x : a ≡ 2 * p + 1 = omega arith in rw x (rows (2 * p + 1) (omega arith) (omega arith))
+]
+  where
+    rows : (x : ℕ) → g x (2 * q) ≤ largest-four g p q → g x (2 * q + 1) ≤ largest-four g p q → g x b ≤ largest-four g p q
+    rows x l m = elim (decLe b (2 * q)) [
+      | yes j ↦ let y : b ≡ 2 * q = omega arith in rw y l
+      | no j ↦ let y : b ≡ 2 * q + 1 = omega arith in rw y m
+    ]
+
+pub parts-at-most : (g : ℕ → ℕ → ℕ) (p q m : ℕ) → ((a b : ℕ) → a / 2 ≡ p → b / 2 ≡ q → g a b ≤ m) → largest-four g p q ≤ m
+parts-at-most g p q m h = let e = parts (λ a b. g a b ≤ m) p q h in omega arith
 
 -- ---- the lists of the four, joined
 pub length-in-turn : {X : Type 0} (g : ℕ → ℕ → List X) (p q : ℕ) → length (in-turn g p q) ≡ four (λ a b. length (g a b)) p q

@@ -14,30 +14,31 @@ use Rattle.algebra.proofs.Choice.{and-both}
 use Rattle.algebra.proofs.Run.{span-member, span-++, span-first, ⋯-member, member-⋯, ⋯-run}
 use Rattle.verdicts.specs.declared.Verdict.{Verdict}
 use Rattle.verdicts.specs.declared.Verdict.the-variants.{Above, Below, Open}
+use Rattle.verdicts.specs.Judging.{carried-bend}
 use Rattle.verdicts.specs.Walking.{Verdicts, enclosing, is-open, all-open, is-visited, colour-of, colour}
 use Rattle.verdicts.specs.Facts.{Covered, ColourMeans}
 use Rattle.verdicts.proofs.Cells.{Cleared, clears, opens, kind, cleared-above, cleared-below}
 use Rattle.verdicts.proofs.Colours.{first-cleared, first-opened}
 use Rattle.verdicts.proofs.Lists.{map-cong}
 
--- ---- a verdict by its colour and the two bounds that it carries
+-- ---- a verdict by its colour, and the two bounds and the bend that it carries
 abbrev carried-lower : Verdict → ℤ
-carried-lower (Above l u) = l
-carried-lower (Below l u) = l
-carried-lower (Open l u) = l
+carried-lower (Above l u b) = l
+carried-lower (Below l u b) = l
+carried-lower (Open l u b) = l
 
 abbrev carried-upper : Verdict → ℤ
-carried-upper (Above l u) = u
-carried-upper (Below l u) = u
-carried-upper (Open l u) = u
+carried-upper (Above l u b) = u
+carried-upper (Below l u b) = u
+carried-upper (Open l u b) = u
 
-abbrev verdict-of : ℕ → ℤ → ℤ → Verdict
+abbrev verdict-of : ℕ → ℤ → ℤ → ℕ → Verdict
 verdict-of c = cond (eqb c 2) Above (cond (eqb c 3) Below Open)
 
-verdict-is : (w : Verdict) → w ≡ verdict-of (colour-of (w ∷ [])) (carried-lower w) (carried-upper w)
-verdict-is (Above l u) = refl
-verdict-is (Below l u) = refl
-verdict-is (Open l u) = refl
+verdict-is : (w : Verdict) → w ≡ verdict-of (colour-of (w ∷ [])) (carried-lower w) (carried-upper w) (carried-bend w)
+verdict-is (Above l u b) = refl
+verdict-is (Below l u b) = refl
+verdict-is (Open l u b) = refl
 
 -- ---- the verdict that decides, of those at n levels from a on: the ones before it are open
 record Decided (f : ℕ → Verdict) (a n c : ℕ) : Type 0 where
@@ -67,9 +68,9 @@ deciding f a (suc n) c h e = elim (kind (f a)) [
 -- after open verdicts the later ones decide
 after-open : (xs ys : List Verdict) → all-open xs ≡ true → colour-of (xs ++ ys) ≡ colour-of ys
 after-open [] ys e = refl
-after-open (Above l u ∷ xs) ys e = absurd (true≢false (sym e))
-after-open (Below l u ∷ xs) ys e = absurd (true≢false (sym e))
-after-open (Open l u ∷ xs) ys e = after-open xs ys e
+after-open (Above l u b ∷ xs) ys e = absurd (true≢false (sym e))
+after-open (Below l u b ∷ xs) ys e = absurd (true≢false (sym e))
+after-open (Open l u b ∷ xs) ys e = after-open xs ys e
 
 -- ---- the larger cells that enclose a cell which encloses the finest cell p, q enclose the finest cell
 module _ (v : Verdicts) (k p q : ℕ) where
@@ -92,7 +93,8 @@ module _ (v : Verdicts) (k p q : ℕ) where
         reached = visited-by l i ∙ ap (λ n. all-open (map (enclosing v k p q) (run 0 n))) (Nat.sub-zero l) ∙ r .free;
         lower = carried-lower w;
         upper = carried-upper w;
-        judged = verdict-is w ∙ ap (λ d. verdict-of d (carried-lower w) (carried-upper w)) (ap (λ n. colour-of (enclosing v k p q n ∷ [])) (sym (Nat.zero-add l)) ∙ r .painted);
+        bend = carried-bend w;
+        judged = verdict-is w ∙ ap (λ d. verdict-of d (carried-lower w) (carried-upper w) (carried-bend w)) (ap (λ n. colour-of (enclosing v k p q n ∷ [])) (sym (Nat.zero-add l)) ∙ r .painted);
       }
 
   covered-colour : (c level : ℕ) → level ≤ k → is-visited v level (p / 2 ^ (k - level)) (q / 2 ^ (k - level)) ≡ true → Cleared (enclosing v k p q level) c → colour v k p q ≡ c

@@ -10,7 +10,8 @@ use lib.ListN.{length, getD}
 use Rattle.algebra.specs.Sum.{span}
 use Rattle.verdicts.specs.declared.Verdict.{Verdict}
 use Rattle.verdicts.specs.declared.Verdict.the-variants.{Above, Below}
-use Rattle.verdicts.specs.Walking.{Verdicts, enclosing, is-open, is-visited, colour, raster, visited, coloured, cells-cut, those, records}
+use Rattle.verdicts.specs.Judging.{carried-bend}
+use Rattle.verdicts.specs.Walking.{Verdicts, enclosing, is-open, is-visited, colour, raster, visited, coloured, largest-bend, cells-cut, those, records}
 
 -- visited is 1 plus 4 times the number of cells cut, and lies between 1 and (4^(k+1) − 1)/3
 abbrev pub VisitedByCuts : Type 0
@@ -67,15 +68,37 @@ ListingLong = (v : Verdicts) (k : ℕ) → (length (records v k) + cells-cut v k
 abbrev pub ColouredCounted : Type 0
 ColouredCounted = (v : Verdicts) (k : ℕ) → (coloured v k ≡ length (those (λ b. eqb b 1) (raster v k))) × (coloured v k ≡ length (those (λ r. eqb (colour-in r) 1) (records v k)))
 
+-- ---- the largest bend, by which it is determined
+-- no coloured finest cell has a larger one
+abbrev pub BendAtMost : Type 0
+BendAtMost = (v : Verdicts) (k p q : ℕ) → p < 2 ^ k → q < 2 ^ k → colour v k p q ≡ 1 → carried-bend (v k p q) ≤ largest-bend v k
+
+-- where a cell is coloured, one of them has just that
+pub record MostBent (v : Verdicts) (k : ℕ) : Type 0 where
+  pub column : ℕ
+  pub row : ℕ
+  pub across : column < 2 ^ k
+  pub along : row < 2 ^ k
+  pub painted : colour v k column row ≡ 1
+  pub most : carried-bend (v k column row) ≡ largest-bend v k
+
+abbrev pub BendReached : Type 0
+BendReached = (v : Verdicts) (k p q : ℕ) → p < 2 ^ k → q < 2 ^ k → colour v k p q ≡ 1 → MostBent v k
+
+-- and it is 0 where none is
+abbrev pub NoneNoBend : Type 0
+NoneNoBend = (v : Verdicts) (k : ℕ) → ((p q : ℕ) → p < 2 ^ k → q < 2 ^ k → colour v k p q ≡ 1 → ⊥) → largest-bend v k ≡ 0
+
 -- ---- why a finest cell has its colour
 -- a cell covers the finest cell at column p, row q, that is encloses it or is that cell itself; it is visited, and its verdict is of this kind
-pub record Covered (v : Verdicts) (k p q : ℕ) (verdict : ℤ → ℤ → Verdict) : Type 0 where
+pub record Covered (v : Verdicts) (k p q : ℕ) (verdict : ℤ → ℤ → ℕ → Verdict) : Type 0 where
   pub level : ℕ
   pub within : level ≤ k
   pub reached : is-visited v level (p / 2 ^ (k - level)) (q / 2 ^ (k - level)) ≡ true
   pub lower : ℤ
   pub upper : ℤ
-  pub judged : enclosing v k p q level ≡ verdict lower upper
+  pub bend : ℕ
+  pub judged : enclosing v k p q level ≡ verdict lower upper bend
 
 -- the byte is 1 for a coloured finest cell, all whose enclosing cells are open and itself too; 2 where the cleared cell that covers it is above, 3 where it is below
 abbrev pub ColourMeans : Type 0

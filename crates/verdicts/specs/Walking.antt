@@ -4,8 +4,10 @@ use mathlib.Core.List.{List, [], _∷_, _++_, map}
 use Prim.Native.Nat.{ℕ, zero, suc, _+_, _*_, _-_, _/_, _%_, _^_}
 use lib.Dec.{eqb}
 use Rattle.algebra.specs.Sum.{sumℕ, span, _⋯_}
+use Rattle.algebra.specs.MinMax.{largest}
 use Rattle.verdicts.specs.declared.Verdict.{Verdict}
 use Rattle.verdicts.specs.declared.Verdict.the-variants.{Above, Below, Open}
+use Rattle.verdicts.specs.Judging.{carried-bend}
 
 -- a verdict for each level, column and row
 abbrev pub Verdicts : Type 0
@@ -16,17 +18,17 @@ abbrev pub enclosing : Verdicts → ℕ → ℕ → ℕ → ℕ → Verdict
 enclosing v j p q l = v l (p / 2 ^ (j - l)) (q / 2 ^ (j - l))
 
 abbrev pub is-open : Verdict → Bool
-is-open (Above l u) = false
-is-open (Below l u) = false
-is-open (Open l u) = true
+is-open (Above l u b) = false
+is-open (Below l u b) = false
+is-open (Open l u b) = true
 
 -- ---- the colour: 1 for coloured, 2 for above, 3 for below
 -- by the first verdict that is not open; 1 where all are
 abbrev pub colour-of : List Verdict → ℕ
 colour-of [] = 1
-colour-of (Above l u ∷ vs) = 2
-colour-of (Below l u ∷ vs) = 3
-colour-of (Open l u ∷ vs) = colour-of vs
+colour-of (Above l u b ∷ vs) = 2
+colour-of (Below l u b ∷ vs) = 3
+colour-of (Open l u b ∷ vs) = colour-of vs
 
 -- of a finest cell: by the cells that enclose it from level 0 on, itself the last
 unfoldable pub colour : Verdicts → ℕ → ℕ → ℕ → ℕ
@@ -56,6 +58,14 @@ visited v k = sumℕ (0 ⋯ k) (λ j. how-many j (is-visited v j))
 -- coloured is the number of coloured cells
 unfoldable pub coloured : Verdicts → ℕ → ℕ
 coloured v k = how-many k (λ p q. eqb (colour v k p q) 1)
+
+-- the largest number that a cell of level j with the property has, 0 where no cell has the property
+abbrev pub largest-among : ℕ → (ℕ → ℕ → Bool) → (ℕ → ℕ → ℕ) → ℕ
+largest-among j has number = largest (span 0 (2 ^ j)) (λ q. largest (span 0 (2 ^ j)) (λ p. cond (has p q) (number p q) 0))
+
+-- the largest bend among coloured cells (0 if none) (#101)
+unfoldable pub largest-bend : Verdicts → ℕ → ℕ
+largest-bend v k = largest-among k (λ p q. eqb (colour v k p q) 1) (λ p q. carried-bend (v k p q))
 
 -- the cells cut: visited, open, and of a level below k
 unfoldable pub cells-cut : Verdicts → ℕ → ℕ

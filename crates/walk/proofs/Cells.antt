@@ -9,9 +9,10 @@ use lib.Pow.{pow-add}
 use mir.Syntax.{w32}
 use mir.Val.{Fits}
 use Rattle.verdicts.specs.declared.Verdict.{Verdict}
+use Rattle.verdicts.specs.Judging.{carried-bend}
 use Rattle.verdicts.specs.Walking.{Verdicts, colour-of, record-of}
-use Rattle.verdicts.specs.Operational.{visited-from, coloured-from, records-from, colour-from}
-use Rattle.verdicts.proofs.Cells.{Opened, clears, opens, kind, levels-below, visited-cleared, visited-last, visited-open, coloured-cleared, coloured-last, coloured-open, records-cleared, records-last, colour-cleared, colour-last}
+use Rattle.verdicts.specs.Operational.{visited-from, coloured-from, bend-from, records-from, colour-from}
+use Rattle.verdicts.proofs.Cells.{Opened, clears, opens, kind, levels-below, visited-cleared, visited-last, visited-open, coloured-cleared, coloured-last, coloured-open, bend-cleared, bend-last, bend-open, records-cleared, records-last, colour-cleared, colour-last}
 use Rattle.verdicts.proofs.Bounds.{visited-small, coloured-small}
 use Rattle.page.specs.Scaled.{IsCell}
 use Rattle.cells.specs.declared.Ground.{Ground}
@@ -31,29 +32,32 @@ open-by w e = elim (kind w) [
 pub record Settled (v : Verdicts) (level n p q c : ℕ) : Type 0 where
   pub visits : visited-from v level n p q ≡ 1
   pub colours : coloured-from v level n p q ≡ cond (eqb c 1) 1 0
+  pub bends : bend-from v level n p q ≡ cond (eqb c 1) (carried-bend (v level p q)) 0
   pub records : records-from v level n p q ≡ record-of c level p q ∷ []
   pub paints : (x y : ℕ) → x / 2 ^ n ≡ p → y / 2 ^ n ≡ q → colour-from v level n x y ≡ c
 
 -- it is cleared, or it is a finest one
 pub settled : (v : Verdicts) (level n p q c : ℕ) → c ≡ colour-of (v level p q ∷ []) → (c ≡ 1 → n ≡ 0) → Settled v level n p q c
 settled v level n p q c e h = elim (kind (v level p q)) [
-  | clears m s ↦ let f : c ≡ m = e ∙ s .painted in record {
+  | clears m s ↦ let f : c ≡ m = e ∙ s .painted in let plain = ap (λ i. eqb i 1) f ∙ s .plain in record {
     visits = visited-cleared v level p q s n;
-    colours = coloured-cleared v level p q s n ∙ sym (ap (λ b. cond b 1 0) (ap (λ i. eqb i 1) f ∙ s .plain));
+    colours = coloured-cleared v level p q s n ∙ sym (ap (λ b. cond b 1 0) plain);
+    bends = bend-cleared v level p q s n ∙ sym (ap (λ b. cond b (carried-bend (v level p q)) 0) plain);
     records = records-cleared v level p q s n ∙ ap (λ i. record-of i level p q ∷ []) (sym f);
     paints = λ x y a b. colour-cleared v level p q s n x y a b ∙ sym f;
   }
   | opens s ↦ let f : c ≡ 1 = e ∙ s .coloured in let z = h f in rw (z, f) (record {
     visits = visited-last v level p q;
     colours = coloured-last v level p q s;
+    bends = bend-last v level p q s;
     records = records-last v level p q s;
     paints = λ x y a b. colour-last v level p q s x y a b;
   })
 ]
 
 -- ---- what is counted
-pub counted-one : (v : Verdicts) (k level p q c : ℕ) → Settled v level (k - level) p q c → Counted v k level p q (one-seen c)
-counted-one v k level p q c s = record { visits = sym (s .visits); colours = sym (s .colours) }
+pub counted-one : (v : Verdicts) (k level p q c : ℕ) → Settled v level (k - level) p q c → Counted v k level p q (one-seen c (carried-bend (v level p q)))
+counted-one v k level p q c s = record { visits = sym (s .visits); colours = sym (s .colours); bends = sym (s .bends) }
 
 pub counted-cut : (v : Verdicts) (k level p q : ℕ) (a b c d : Seen) → level < k → Opened (v level p q)
     → Counted v k (level + 1) (2 * p) (2 * q) a → Counted v k (level + 1) (2 * p + 1) (2 * q) b → Counted v k (level + 1) (2 * p) (2 * q + 1) c → Counted v k (level + 1) (2 * p + 1) (2 * q + 1) d
@@ -63,6 +67,7 @@ counted-cut v k level p q a b c d l s h₁ h₂ h₃ h₄ =
     record {
       visits = rw e (omega (arith, visited-open v level p q s n, h₁ .visits, h₂ .visits, h₃ .visits, h₄ .visits));
       colours = rw e (omega (arith, coloured-open v level p q s n, h₁ .colours, h₂ .colours, h₃ .colours, h₄ .colours));
+      bends = rw e (omega (arith, bend-open v level p q s n, h₁ .bends, h₂ .bends, h₃ .bends, h₄ .bends));
     }
 
 -- few enough for 32 bits

@@ -6,7 +6,7 @@ use native.Mathlib.Nat as Nat
 use native.Mathlib.Omega.{arith}
 use lib.ListN.{length, getD, drop, List·getD-append}
 use lib.Seq.{take-append-seam}
-use Rattle.verdicts.specs.Walking.{raster, records}
+use Rattle.verdicts.specs.Walking.{raster, records, largest-bend}
 use Rattle.verdicts.proofs.Lengths.{raster-long, listing-long}
 use Rattle.verdicts.proofs.Bytes.{byte-below, raster-byte}
 use Rattle.verdicts.proofs.Records.{same-story, one-record-each}
@@ -15,8 +15,9 @@ use Rattle.page.specs.Refusals.{refusal, to-walk}
 use Rattle.page.proofs.Rows.{unless-none, unless-refused, unless-number, walk-passed}
 use Rattle.page.proofs.Raster.{white-signed, coloured-meets}
 use Rattle.page.proofs.Cover.{curve-covered}
-use Rattle.walk.specs.Answers.{verdicts, rastered, recorded, Reckoned, reckoned, states-listing, Enumerated, enumerated}
-use Rattle.walk.specs.Facts.{RasterNumber, ListingNumber, RasterZeros, ListingZeros, PrintedByte, PrintedSigned, PrintedMeets, PrintedCurve, WrittenRecords, ListedColour, ListedSigned, ListedMeets, ListedCurve, RefusedUnchanged, LaterUnchanged}
+use Rattle.page.proofs.Label.{sheet-labelled, labelled-by}
+use Rattle.walk.specs.Answers.{verdicts, rastered, recorded, Reckoned, states-tally, reckoned, states-listing, Enumerated, enumerated}
+use Rattle.walk.specs.Facts.{RasterNumber, ListingNumber, RasterZeros, ListingZeros, PrintedByte, PrintedSigned, PrintedMeets, PrintedCurve, PrintedLabel, WrittenRecords, ListedColour, ListedSigned, ListedMeets, ListedCurve, ListedLabel, RefusedUnchanged, LaterUnchanged}
 use Rattle.walk.proofs.Whole.{room, over-length, over-later}
 
 -- ---- the number, and zeros beside it
@@ -69,6 +70,12 @@ printed-curve S mode old r now h e M N Q o i z =
     let (c, one) = curve-covered S (mode-of mode) M N Q o i z in
     (c, printed-byte S mode old r now h e (c .column) (c .row) (c .is-cell .column) (c .is-cell .row) ∙ one)
 
+pub printed-label : PrintedLabel
+unfolding reckoned
+printed-label S mode old r now h e =
+    let b : states-tally r .bend ≡ largest-bend (verdicts S mode) (S .k) = ap (λ t. t .bend) (h .1 ∙ sym (unless-none _ _ _ e)) in
+    labelled-by (λ p q x y z. printed-byte S mode old r now h e p q x y ∙ z) (λ p q x y z. sym (printed-byte S mode old r now h e p q x y) ∙ z) (sym b) (sheet-labelled S (mode-of mode))
+
 -- ---- the records
 pub written-records : WrittenRecords
 unfolding enumerated
@@ -98,6 +105,12 @@ pub listed-curve : ListedCurve
 listed-curve S mode old r now h e M N Q o i z =
     let (c, one) = curve-covered S (mode-of mode) M N Q o i z in
     (c, listed-colour S mode old r now h e (c .column) (c .row) (c .is-cell .column) (c .is-cell .row) ∙ ap (λ n. n ∷ []) one)
+
+pub listed-label : ListedLabel
+unfolding enumerated
+listed-label S mode old r now h e =
+    let b : states-listing r .bend ≡ largest-bend (verdicts S mode) (S .k) = ap (λ t. t .bend) (h .1 ∙ sym (unless-none _ _ _ e)) in
+    labelled-by (λ p q x y z. listed-colour S mode old r now h e p q x y ∙ ap (λ n. n ∷ []) z) (λ p q x y z. head-is (sym (listed-colour S mode old r now h e p q x y) ∙ z)) (sym b) (sheet-labelled S (mode-of mode))
 
 -- ---- what stays as it was
 pub refused-unchanged : RefusedUnchanged

@@ -7,6 +7,7 @@ use native.Mathlib.Omega.{arith}
 use lib.Dec.{eqb}
 use lib.ListN.{getD}
 use Rattle.algebra.proofs.Choice.{cond-when}
+use Rattle.verdicts.specs.Judging.{carried-bend}
 use Rattle.verdicts.specs.Walking.{Verdicts}
 use Rattle.verdicts.specs.Operational.{colour-from}
 use Rattle.verdicts.proofs.Cells.{Opened, levels-below, colour-open}
@@ -42,7 +43,7 @@ painted-four k d p q new l₀ l₁ l₂ l₃ l₄ a b c e =
     }
 
 -- ---- what `examine` and `cut` promise
-pub examined-one : (v : Verdicts) (k level p q c : ℕ) (old now : List ℕ) → Settled v level (k - level) p q c → Block k (k - level) p q c old now → Examined v k level p q old now (one-seen c)
+pub examined-one : (v : Verdicts) (k level p q c : ℕ) (old now : List ℕ) → Settled v level (k - level) p q c → Block k (k - level) p q c old now → Examined v k level p q old now (one-seen c (carried-bend (v level p q)))
 examined-one v k level p q c old now s h = record {
   painted = repaint (in-block k (k - level) p q) (λ i. c) (λ i. colour-from v level (k - level) (i % 2 ^ k) (i / 2 ^ k)) old now
       (λ i e. sym (s .paints (i % 2 ^ k) (i / 2 ^ k) (block-column k (k - level) p q i e) (block-row k (k - level) p q i e))) h;

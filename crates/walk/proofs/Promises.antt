@@ -3,7 +3,7 @@ use mathlib.Core.Path.{_≡_, sym, _∙_, ap, ap₂}
 use mathlib.Core.List.{List, _++_}
 use Prim.Native.Nat.{ℕ, _^_}
 use lib.ListN.{length, drop}
-use Rattle.verdicts.specs.Walking.{raster, records, visited, coloured}
+use Rattle.verdicts.specs.Walking.{raster, records, visited, coloured, largest-bend}
 use Rattle.page.specs.Sheet.{Sheet}
 use Rattle.page.specs.Refusals.{refusal, to-walk}
 use Rattle.page.proofs.Rows.{unless-ap, unless-refused, unless-none}
@@ -34,16 +34,16 @@ module _ (S : Sheet) (mode : ℕ) (old : List ℕ) {n : ℕ} (e : n ≡ refusal 
   listing-refused = listing-kept S mode old (ap Listed.Refused e ∙ unless-refused Listed.Refused _ _ (λ z. h (e ∙ z))) (unless-refused (λ n. old) _ _ (λ z. h (e ∙ z)))
 
 -- where none does: the values, and what is written
-module _ (S : Sheet) (mode : ℕ) (old : List ℕ) (e : refusal (to-walk S mode (length old)) ≡ 0) {v c : ℕ} (visits : v ≡ visited (verdicts S mode) (S .k)) (colours : c ≡ coloured (verdicts S mode) (S .k)) {now : List ℕ} where
-  pub raster-done : now ≡ raster (verdicts S mode) (S .k) ++ drop (4 ^ S .k) old → RasterPromise S mode old (Tallied.Tally v c) now
+module _ (S : Sheet) (mode : ℕ) (old : List ℕ) (e : refusal (to-walk S mode (length old)) ≡ 0) {v c b : ℕ} (tally : (v ≡ visited (verdicts S mode) (S .k)) × (c ≡ coloured (verdicts S mode) (S .k)) × (b ≡ largest-bend (verdicts S mode) (S .k))) {now : List ℕ} where
+  pub raster-done : now ≡ raster (verdicts S mode) (S .k) ++ drop (4 ^ S .k) old → RasterPromise S mode old (Tallied.Tally v c b) now
   unfolding tallied rastered
-  raster-done w = raster-kept S mode old (ap₂ Tallied.Tally visits colours ∙ unless-none Tallied.Refused _ _ e) (w ∙ unless-none _ _ _ e)
+  raster-done w = raster-kept S mode old (ap₂ (λ v c. Tallied.Tally v c b) (tally .0) (tally .1) ∙ ap (Tallied.Tally (visited (verdicts S mode) (S .k)) (coloured (verdicts S mode) (S .k))) (tally .2) ∙ unless-none Tallied.Refused _ _ e) (w ∙ unless-none _ _ _ e)
 
   pub listing-done : {l : ℕ} → l ≡ length (records (verdicts S mode) (S .k)) → now ≡ records (verdicts S mode) (S .k) ++ drop (length (records (verdicts S mode) (S .k))) old
-      → ListingPromise S mode old (Listed.Records l v c) now
+      → ListingPromise S mode old (Listed.Records l v c b) now
   unfolding listed recorded
   listing-done {l} long w =
-      listing-kept S mode old (ap (λ n. Listed.Records n v c) long ∙ ap₂ (Listed.Records (length (records (verdicts S mode) (S .k)))) visits colours ∙ unless-none Listed.Refused _ _ e) (w ∙ unless-none _ _ _ e)
+      listing-kept S mode old (ap₂ (λ l v. Listed.Records l v c b) long (tally .0) ∙ ap₂ (Listed.Records (length (records (verdicts S mode) (S .k))) (visited (verdicts S mode) (S .k))) (tally .1) (tally .2) ∙ unless-none Listed.Refused _ _ e) (w ∙ unless-none _ _ _ e)
 
 -- ---- and by nothing else
 pub one-raster : OneRaster

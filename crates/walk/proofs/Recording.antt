@@ -8,6 +8,7 @@ use native.Mathlib.Omega.{arith}
 use lib.Dec.{lit<}
 use lib.ListN.{length, set}
 use Rattle.algebra.proofs.Written.{written-two, written-length}
+use Rattle.verdicts.specs.Judging.{carried-bend}
 use Rattle.verdicts.specs.Walking.{Verdicts, in-turn, record-of}
 use Rattle.verdicts.specs.Operational.{records-from}
 use Rattle.verdicts.proofs.Cells.{Opened, levels-below, records-open}
@@ -18,7 +19,7 @@ use Rattle.walk.proofs.Cells.{Settled, counted-one, counted-cut}
 
 -- ---- what `list_cell` and `list_parts` promise
 pub recorded-one : {v : Verdicts} {k level p q at c : ℕ} {old : List ℕ} → Settled v level (k - level) p q c
-    → Recorded v k level p q at old (set old at (record-of c level p q)) (record { end = at + 1; seen = one-seen c })
+    → Recorded v k level p q at old (set old at (record-of c level p q)) (record { end = at + 1; seen = one-seen c (carried-bend (v level p q)) })
 recorded-one {v} {k} {level} {p} {q} {at} {c} {old} s = record {
   written = rw (s .records) (record { ends = refl; written = refl });
   counted = counted-one v k level p q c s;

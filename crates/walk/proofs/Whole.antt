@@ -13,10 +13,11 @@ use lib.Pow.{pow-pos}
 use lib.Seq.{getD-append-add, getD-drop, ext-getD, sets, sets-eq}
 use Rattle.algebra.proofs.Choice.{and-both}
 use Rattle.algebra.proofs.Power.{*-pow}
-use Rattle.verdicts.specs.Walking.{Verdicts, raster, records, visited, coloured}
-use Rattle.verdicts.specs.Operational.{visited-from, coloured-from, records-from, colour-from}
+use Rattle.verdicts.specs.Walking.{Verdicts, raster, records, visited, coloured, largest-bend}
+use Rattle.verdicts.specs.Operational.{visited-from, coloured-from, bend-from, records-from, colour-from}
 use Rattle.verdicts.proofs.Colours.{colour-is}
 use Rattle.verdicts.proofs.Tallies.{visited-is, coloured-is}
+use Rattle.verdicts.proofs.Bends.{bend-is}
 use Rattle.verdicts.proofs.Lengths.{raster-long, listing-long}
 use Rattle.verdicts.proofs.Listing.{records-are}
 use Rattle.verdicts.proofs.Bytes.{row-below, raster-at}
@@ -76,8 +77,12 @@ raster-whole v k old now r room e =
     ])
 
 -- ---- the tally
-pub counted-whole : (v : Verdicts) (k : ℕ) (r : Seen) → Counted v k 0 0 0 r → (r .visited ≡ visited v k) × (r .coloured ≡ coloured v k)
-counted-whole v k r c = (c .visits ∙ ap (λ n. visited-from v 0 n 0 0) (Nat.sub-zero k) ∙ visited-is v k, c .colours ∙ ap (λ n. coloured-from v 0 n 0 0) (Nat.sub-zero k) ∙ coloured-is v k)
+pub counted-whole : (v : Verdicts) (k : ℕ) (r : Seen) → Counted v k 0 0 0 r → (r .visited ≡ visited v k) × (r .coloured ≡ coloured v k) × (r .bend ≡ largest-bend v k)
+counted-whole v k r c = (
+  c .visits ∙ ap (λ n. visited-from v 0 n 0 0) (Nat.sub-zero k) ∙ visited-is v k,
+  c .colours ∙ ap (λ n. coloured-from v 0 n 0 0) (Nat.sub-zero k) ∙ coloured-is v k,
+  c .bends ∙ ap (λ n. bend-from v 0 n 0 0) (Nat.sub-zero k) ∙ bend-is v k,
+)
 
 -- ---- the listing
 pub listing-whole : (v : Verdicts) (k : ℕ) (old now : List ℕ) (r : Entered) → 4 ^ k ≤ length old → Recorded v k 0 0 0 0 old now r

@@ -2,7 +2,7 @@
 use mathlib.Core.List.{List, _++_}
 use Prim.Native.Nat.{ℕ, _^_}
 use lib.ListN.{length, drop}
-use Rattle.verdicts.specs.Walking.{Verdicts, raster, records, visited, coloured}
+use Rattle.verdicts.specs.Walking.{Verdicts, raster, records, visited, coloured, largest-bend}
 use Rattle.page.specs.Sheet.{Sheet, mode-of}
 use Rattle.page.specs.Bounds.{verdict}
 use Rattle.page.specs.Refusals.{to-walk, refusal, unless}
@@ -17,7 +17,7 @@ verdicts S mode = verdict S (mode-of mode)
 
 -- ---- raster, with the tally. The place has n entries
 unfoldable pub tallied : Sheet → ℕ → ℕ → Tallied
-tallied S mode n = unless (refusal (to-walk S mode n)) Tallied.Refused (Tallied.Tally (visited (verdicts S mode) (S .k)) (coloured (verdicts S mode) (S .k)))
+tallied S mode n = unless (refusal (to-walk S mode n)) Tallied.Refused (Tallied.Tally (visited (verdicts S mode) (S .k)) (coloured (verdicts S mode) (S .k)) (largest-bend (verdicts S mode) (S .k)))
 
 -- the place afterwards: the raster's 4^k bytes, and after them the entries as they were
 unfoldable pub rastered : Sheet → ℕ → List ℕ → List ℕ
@@ -28,19 +28,20 @@ pub record Reckoned : Type 0 where
   pub number : ℕ
   pub visited : ℕ
   pub coloured : ℕ
+  pub bend : ℕ
 
 abbrev pub states-tally : Tallied → Reckoned
-states-tally (Tallied.Tally v c) = record { number = 0; visited = v; coloured = c }
-states-tally (Tallied.Refused n) = record { number = n; visited = 0; coloured = 0 }
+states-tally (Tallied.Tally v c b) = record { number = 0; visited = v; coloured = c; bend = b }
+states-tally (Tallied.Refused n) = record { number = n; visited = 0; coloured = 0; bend = 0 }
 
 unfoldable pub reckoned : Sheet → ℕ → ℕ → Reckoned
 reckoned S mode n =
-    unless (refusal (to-walk S mode n)) (λ n. record { number = n; visited = 0; coloured = 0 })
-    (record { number = 0; visited = visited (verdicts S mode) (S .k); coloured = coloured (verdicts S mode) (S .k) })
+    unless (refusal (to-walk S mode n)) (λ n. record { number = n; visited = 0; coloured = 0; bend = 0 })
+    (record { number = 0; visited = visited (verdicts S mode) (S .k); coloured = coloured (verdicts S mode) (S .k); bend = largest-bend (verdicts S mode) (S .k) })
 
 -- ---- listing, with its length and tally
 unfoldable pub listed : Sheet → ℕ → ℕ → Listed
-listed S mode n = unless (refusal (to-walk S mode n)) Listed.Refused (Listed.Records (length (records (verdicts S mode) (S .k))) (visited (verdicts S mode) (S .k)) (coloured (verdicts S mode) (S .k)))
+listed S mode n = unless (refusal (to-walk S mode n)) Listed.Refused (Listed.Records (length (records (verdicts S mode) (S .k))) (visited (verdicts S mode) (S .k)) (coloured (verdicts S mode) (S .k)) (largest-bend (verdicts S mode) (S .k)))
 
 -- the place afterwards: the records, and after them the entries as they were
 unfoldable pub recorded : Sheet → ℕ → List ℕ → List ℕ
@@ -53,12 +54,13 @@ pub record Enumerated : Type 0 where
   pub length : ℕ
   pub visited : ℕ
   pub coloured : ℕ
+  pub bend : ℕ
 
 abbrev pub states-listing : Listed → Enumerated
-states-listing (Listed.Records l v c) = record { number = 0; length = l; visited = v; coloured = c }
-states-listing (Listed.Refused n) = record { number = n; length = 0; visited = 0; coloured = 0 }
+states-listing (Listed.Records l v c b) = record { number = 0; length = l; visited = v; coloured = c; bend = b }
+states-listing (Listed.Refused n) = record { number = n; length = 0; visited = 0; coloured = 0; bend = 0 }
 
 unfoldable pub enumerated : Sheet → ℕ → ℕ → Enumerated
 enumerated S mode n =
-    unless (refusal (to-walk S mode n)) (λ n. record { number = n; length = 0; visited = 0; coloured = 0 })
-    (record { number = 0; length = length (records (verdicts S mode) (S .k)); visited = visited (verdicts S mode) (S .k); coloured = coloured (verdicts S mode) (S .k) })
+    unless (refusal (to-walk S mode n)) (λ n. record { number = n; length = 0; visited = 0; coloured = 0; bend = 0 })
+    (record { number = 0; length = length (records (verdicts S mode) (S .k)); visited = visited (verdicts S mode) (S .k); coloured = coloured (verdicts S mode) (S .k); bend = largest-bend (verdicts S mode) (S .k) })

@@ -7,10 +7,11 @@ use lib.ListN.{length, getD, take}
 use lib.Signed.{_<ℤ_}
 use Rattle.verdicts.specs.Walking.{colour, raster, records}
 use Rattle.verdicts.specs.Facts.{unfolded-at, unfolded}
-use Rattle.page.specs.Sheet.{Sheet}
+use Rattle.page.specs.Sheet.{Sheet, mode-of}
 use Rattle.page.specs.Scaled.{InCell, value-at, MeetsCurve}
 use Rattle.page.specs.Bounds.{bend}
 use Rattle.page.specs.Cover.{Holder}
+use Rattle.page.specs.Label.{Labelled}
 use Rattle.page.specs.Refusals.{refusal, to-walk}
 use Rattle.walk.specs.declared.Tallied.{Tallied}
 use Rattle.walk.specs.declared.Listed.{Listed}
@@ -27,11 +28,11 @@ ListingNumber = (S : Sheet) (mode : ℕ) (old : List ℕ) (r : Listed) (now : Li
 -- ---- where it is not 0, zeros stand beside it: every other number that the answer states is 0
 abbrev pub RasterZeros : Type 0
 RasterZeros = (S : Sheet) (mode : ℕ) (old : List ℕ) (r : Tallied) (now : List ℕ) → RasterPromise S mode old r now → (refusal (to-walk S mode (length old)) ≡ 0 → ⊥) →
-    states-tally r ≡ record { number = refusal (to-walk S mode (length old)); visited = 0; coloured = 0 }
+    states-tally r ≡ record { number = refusal (to-walk S mode (length old)); visited = 0; coloured = 0; bend = 0 }
 
 abbrev pub ListingZeros : Type 0
 ListingZeros = (S : Sheet) (mode : ℕ) (old : List ℕ) (r : Listed) (now : List ℕ) → ListingPromise S mode old r now → (refusal (to-walk S mode (length old)) ≡ 0 → ⊥) →
-    states-listing r ≡ record { number = refusal (to-walk S mode (length old)); length = 0; visited = 0; coloured = 0 }
+    states-listing r ≡ record { number = refusal (to-walk S mode (length old)); length = 0; visited = 0; coloured = 0; bend = 0 }
 
 -- ---- the bytes that `raster` leaves where nothing is refused: the one at q·2^k + p is for the finest cell at column p, row q
 -- it is the raster's byte, the colour of the cell
@@ -54,6 +55,11 @@ PrintedMeets = (S : Sheet) (mode : ℕ) (old : List ℕ) (r : Tallied) (now : Li
 abbrev pub PrintedCurve : Type 0
 PrintedCurve = (S : Sheet) (mode : ℕ) (old : List ℕ) (r : Tallied) (now : List ℕ) → RasterPromise S mode old r now → refusal (to-walk S mode (length old)) ≡ 0 →
     (M N : ℤ) (Q : ℕ) → 1 ≤ Q → InCell S 0 0 0 M N Q → value-at S M N Q ≡ pos 0 → (h : Holder S (S .k) M N Q) × (getD now (h .row * 2 ^ S .k + h .column) 0 ≡ 1)
+
+-- the bend that the answer states is the label's, of the finest cells of which the byte is 1 (#101)
+abbrev pub PrintedLabel : Type 0
+PrintedLabel = (S : Sheet) (mode : ℕ) (old : List ℕ) (r : Tallied) (now : List ℕ) → RasterPromise S mode old r now → refusal (to-walk S mode (length old)) ≡ 0 →
+    Labelled S (mode-of mode) (λ p q. getD now (q * 2 ^ S .k + p) 0 ≡ 1) (states-tally r .bend)
 
 -- ---- the records that `listing` leaves where nothing is refused: as many as it answers, they unfold to the raster
 abbrev pub WrittenRecords : Type 0
@@ -82,6 +88,11 @@ abbrev pub ListedCurve : Type 0
 ListedCurve = (S : Sheet) (mode : ℕ) (old : List ℕ) (r : Listed) (now : List ℕ) → ListingPromise S mode old r now → refusal (to-walk S mode (length old)) ≡ 0 →
     (M N : ℤ) (Q : ℕ) → 1 ≤ Q → InCell S 0 0 0 M N Q → value-at S M N Q ≡ pos 0
     → (h : Holder S (S .k) M N Q) × (unfolded-at (S .k) (take (states-listing r .length) now) (h .column) (h .row) ≡ 1 ∷ [])
+
+-- the bend that the answer states is the label's, of these cells (#101)
+abbrev pub ListedLabel : Type 0
+ListedLabel = (S : Sheet) (mode : ℕ) (old : List ℕ) (r : Listed) (now : List ℕ) → ListingPromise S mode old r now → refusal (to-walk S mode (length old)) ≡ 0 →
+    Labelled S (mode-of mode) (λ p q. unfolded-at (S .k) (take (states-listing r .length) now) p q ≡ 1 ∷ []) (states-listing r .bend)
 
 -- ---- what stays as it was, of the place lent to `raster` and of the one lent to `listing`
 -- everything, where the call is refused

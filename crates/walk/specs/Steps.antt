@@ -2,12 +2,12 @@
 use mathlib.Core.Path.{_≡_}
 use mathlib.Core.Bool.{Bool, cond, _&&_}
 use mathlib.Core.List.{List}
-use Prim.Native.Nat.{ℕ, _+_, _-_, _/_, _%_, _^_, _≤_, _<_}
+use Prim.Native.Nat.{ℕ, max, _+_, _-_, _/_, _%_, _^_, _≤_, _<_}
 use lib.Dec.{leb, ltb, eqb}
 use lib.ListN.{length, getD}
 use Rattle.algebra.specs.Written.{Written}
 use Rattle.verdicts.specs.Walking.{Verdicts}
-use Rattle.verdicts.specs.Operational.{visited-from, coloured-from, records-from, colour-from}
+use Rattle.verdicts.specs.Operational.{visited-from, coloured-from, bend-from, records-from, colour-from}
 use Rattle.page.specs.Sheet.{Sheet}
 use Rattle.page.specs.Refusals.{refusal, to-walk}
 use Rattle.cells.specs.Cell.{GroundOf}
@@ -40,11 +40,15 @@ pub record Begins (S : Sheet) (mode entries : ℕ) (r : Begun) : Type 0 where
   pub ground : r .refusal ≡ 0 → GroundOf S mode (r .ground)
 
 -- ---- `one_cell` and `cut_cell`
-abbrev pub one-seen : ℕ → Seen
-one-seen colour = record { visited = 1; coloured = cond (eqb colour 1) 1 0 }
+abbrev pub one-seen : ℕ → ℕ → Seen
+one-seen colour bend = record { visited = 1; coloured = cond (eqb colour 1) 1 0; bend = cond (eqb colour 1) bend 0 }
 
 abbrev pub cut-seen : Seen → Seen → Seen → Seen → Seen
-cut-seen a b c d = record { visited = 1 + a .visited + b .visited + c .visited + d .visited; coloured = a .coloured + b .coloured + c .coloured + d .coloured }
+cut-seen a b c d = record {
+  visited = 1 + a .visited + b .visited + c .visited + d .visited;
+  coloured = a .coloured + b .coloured + c .coloured + d .coloured;
+  bend = max (max (a .bend) (b .bend)) (max (c .bend) (d .bend));
+}
 
 -- at most as many as a whole sheet of depth 7 has
 pub record Few (r : Seen) : Type 0 where
@@ -55,6 +59,7 @@ pub record Few (r : Seen) : Type 0 where
 pub record Counted (v : Verdicts) (k level p q : ℕ) (r : Seen) : Type 0 where
   pub visits : r .visited ≡ visited-from v level (k - level) p q
   pub colours : r .coloured ≡ coloured-from v level (k - level) p q
+  pub bends : r .bend ≡ bend-from v level (k - level) p q
 
 -- `examine` and `cut`: the finest cells in the cell get their colours, and no other entry changes
 pub record Examined (v : Verdicts) (k level p q : ℕ) (old now : List ℕ) (r : Seen) : Type 0 where

@@ -1,43 +1,51 @@
-// One cell of a walk: its colour, what is seen of it, and its record.
+// One cell of a walk: its colour, its bend, what is seen of it, and its record.
 use crate::Seen;
-use cells::Ground;
 use verdicts::Verdict;
 ghost use mathlib.Core.Path.{_≡_};
 ghost use mathlib.Core.List.{[], _∷_};
 ghost use Prim.Native.Nat.{_≤_, _<_};
-ghost use Rattle.page.specs.Scaled.{IsCell};
+ghost use Rattle.verdicts.specs.Judging.{carried-bend};
 ghost use Rattle.verdicts.specs.Walking.{colour-of, record-of};
-ghost use Rattle.cells.specs.Cell.{Firm, verdicts-in};
 ghost use Rattle.walk.specs.Steps.{one-seen, cut-seen, Few};
 
 // 2 for a cell above, 3 for one below, 1 for an open one
-fn colour_of(verdict: Verdict) -> u8
+pub fn colour_of(verdict: Verdict) -> u8
     ensures { λ r. ⌜ r ≡ colour-of (verdict ∷ []) ⌝ }
 {
     match verdict {
-        Verdict::Above { lower: _, upper: _ } => 2,
-        Verdict::Below { lower: _, upper: _ } => 3,
-        Verdict::Open { lower: _, upper: _ } => 1,
+        Verdict::Above { .. } => 2,
+        Verdict::Below { .. } => 3,
+        Verdict::Open { .. } => 1,
     }
 }
 
-// The colour of the cell by its own verdict.
-pub fn cell_colour(ground: Ground, level: u32, p: u32, q: u32) -> u8
-    requires { ⌜ Firm ground × IsCell (ground .k) level p q ⌝ }
-    ensures { λ r. ⌜ r ≡ colour-of (verdicts-in ground level p q ∷ []) ⌝ }
+// The bend that a verdict carries.
+pub fn bend_of(verdict: Verdict) -> u64
+    ensures { λ r. ⌜ r ≡ carried-bend verdict ⌝ }
 {
-    let range = cells::cell_range(ground, level, p, q);
-    let verdict = range.verdict;
-    colour_of(verdict)
+    match verdict {
+        Verdict::Above { bend, .. } => bend,
+        Verdict::Below { bend, .. } => bend,
+        Verdict::Open { bend, .. } => bend,
+    }
 }
 
-// A cell that is not cut: visited, and coloured or not.
-pub fn one_cell(colour: u8) -> Seen
-    ensures { λ r. ⌜ r ≡ one-seen colour ⌝ }
+// A cell of this colour and bend that is not cut: visited, and coloured or not.
+pub fn one_cell(colour: u8, bend: u64) -> Seen
+    ensures { λ r. ⌜ r ≡ one-seen colour bend ⌝ }
 {
-    Seen {
-        visited: 1,
-        coloured: if colour == 1 { 1 } else { 0 },
+    if colour == 1 {
+        Seen {
+            visited: 1,
+            coloured: 1,
+            bend,
+        }
+    } else {
+        Seen {
+            visited: 1,
+            coloured: 0,
+            bend: 0,
+        }
     }
 }
 
@@ -46,9 +54,13 @@ pub fn cut_cell(a: Seen, b: Seen, c: Seen, d: Seen) -> Seen
     requires { ⌜ Few a × Few b × Few c × Few d ⌝ }
     ensures { λ r. ⌜ r ≡ cut-seen a b c d ⌝ }
 {
+    let low = numbers::larger(a.bend, b.bend);
+    let high = numbers::larger(c.bend, d.bend);
+    let bend = numbers::larger(low, high);
     Seen {
         visited: 1 + a.visited + b.visited + c.visited + d.visited,
         coloured: a.coloured + b.coloured + c.coloured + d.coloured,
+        bend,
     }
 }
 

@@ -1,6 +1,7 @@
 // Walking a sheet for its raster: examining a cell and cutting it call on each other, and the levels left fall.
 use crate::Seen;
-use crate::cell::cell_colour;
+use crate::cell::bend_of;
+use crate::cell::colour_of;
 use crate::cell::cut_cell;
 use crate::cell::one_cell;
 use crate::paint::paint_block;
@@ -19,7 +20,8 @@ pub fn examine(place: &mut [u8], ground: Ground, level: u32, p: u32, q: u32) -> 
     requires { ⌜ Firm ground × IsCell (ground .k) level p q × (4 ^ ground .k ≤ length (now place)) ⌝ }
     ensures { λ r. ⌜ Examined (verdicts-in ground) (ground .k) level p q (now (place .entry)) (now (place .exit)) r ⌝ }
 {
-    let colour = cell_colour(ground, level, p, q);
+    let verdict = cells::cell_verdict(ground, level, p, q);
+    let colour = colour_of(verdict);
     let k = ground.k;
     if colour == 1 {
         if level < k {
@@ -27,7 +29,7 @@ pub fn examine(place: &mut [u8], ground: Ground, level: u32, p: u32, q: u32) -> 
         }
     }
     paint_block(place, k, level, p, q, colour);
-    one_cell(colour)
+    one_cell(colour, bend_of(verdict))
 }
 
 // Four parts, in the order lower left, lower right, upper left, upper right.

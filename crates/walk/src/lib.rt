@@ -10,9 +10,13 @@ use cells::Ground;
 ghost use Rattle.page.specs.Sheet.{sheet-of};
 ghost use Rattle.walk.specs.Promises.{RasterPromise, ListingPromise};
 
-// The tally, or a refusal.
+// The tally, or a refusal. The bend is the largest among coloured cells.
 pub enum Tallied {
-    Tally { visited: u32, coloured: u32 },
+    Tally {
+        visited: u32,
+        coloured: u32,
+        bend: u64,
+    },
     Refused(u32),
 }
 
@@ -22,6 +26,7 @@ pub enum Listed {
         length: usize,
         visited: u32,
         coloured: u32,
+        bend: u64,
     },
     Refused(u32),
 }
@@ -32,10 +37,11 @@ struct Begun {
     pub ground: Ground,
 }
 
-// What a walk has seen: cells visited, and finest cells coloured.
+// What a walk has seen: cells visited, finest cells coloured, and the largest bend of these.
 struct Seen {
     pub visited: u32,
     pub coloured: u32,
+    pub bend: u64,
 }
 
 // Where the records written so far end, and what the walk has seen.
@@ -66,6 +72,7 @@ pub fn raster(
     Tallied::Tally {
         visited: seen.visited,
         coloured: seen.coloured,
+        bend: seen.bend,
     }
 }
 
@@ -93,5 +100,6 @@ pub fn listing(
         length: entered.end,
         visited: seen.visited,
         coloured: seen.coloured,
+        bend: seen.bend,
     }
 }

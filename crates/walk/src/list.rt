@@ -1,7 +1,8 @@
 // Walking a sheet for its listing: the same cycle, with a record in place of a block of bytes.
 use crate::Entered;
-use crate::cell::cell_colour;
+use crate::cell::bend_of;
 use crate::cell::cell_record;
+use crate::cell::colour_of;
 use crate::cell::cut_cell;
 use crate::cell::one_cell;
 use cells::Ground;
@@ -26,14 +27,15 @@ pub fn list_cell(
     requires { ⌜ Firm ground × IsCell (ground .k) level p q × (at + 4 ^ (ground .k - level) ≤ length (now place)) ⌝ }
     ensures { λ r. ⌜ Recorded (verdicts-in ground) (ground .k) level p q at (now (place .entry)) (now (place .exit)) r ⌝ }
 {
-    let colour = cell_colour(ground, level, p, q);
+    let verdict = cells::cell_verdict(ground, level, p, q);
+    let colour = colour_of(verdict);
     if colour == 1 {
         if level < ground.k {
             return list_parts(place, at, ground, level, p, q);
         }
     }
     place[at] = cell_record(colour, level, p, q);
-    let seen = one_cell(colour);
+    let seen = one_cell(colour, bend_of(verdict));
     let end = at + 1;
     Entered { end, seen }
 }

@@ -6,12 +6,12 @@ use borrow.Author.Needs.{needs}
 use mir.Facts.{toZ-ofZ}
 use Rattle.page.specs.Sheet.{Sheet, sheet-of, mode-of}
 use Rattle.page.specs.Scaled.{IsCell}
-use Rattle.page.specs.Bounds.{bend, verdict}
+use Rattle.page.specs.Bounds.{verdict}
 use Rattle.page.specs.Weight.{Accepted}
 use Rattle.page.specs.Refusals.{in-cell, refusal}
 use Rattle.page.proofs.Rows.{cell-passed, unless-refused, unless-none}
 use Rattle.cells.specs.Cell.{GroundOf}
-use Rattle.cells.proofs.Grounds.{firm, verdicts-are, bend-is}
+use Rattle.cells.proofs.Grounds.{firm, verdicts-are}
 use Rattle.probe.specs.declared.Bounded.{Bounded}
 use Rattle.probe.specs.declared.Bounded.the-variants.{Cell, Refused}
 use Rattle.probe.specs.Answers.{bounded}
@@ -33,7 +33,7 @@ passed c = let s = c .before .before in cell-passed (sheet s) (s .args .mode) (s
 
 -- what is answered where none does
 abbrev values : tie.Start → Bounded
-values s = let a = s .args in Cell (verdict (sheet s) (mode-of (a .mode)) (a .j) (a .p) (a .q)) (bend (sheet s) (a .j) (a .p) (a .q))
+values s = let a = s .args in Cell (verdict (sheet s) (mode-of (a .mode)) (a .j) (a .p) (a .q))
 
 -- the ground of the sheet
 ground-is : (c : tie.After-ground-of) → let s = c .before .before .before in GroundOf (sheet s) (s .args .mode) (c .ground-of .result)
@@ -51,8 +51,8 @@ returns c =
 ground-of-requires : tie.Need-ground-of-requires
 ground-of-requires c κs = let s = c .before .before in rw (toZ-ofZ (s .fits .x), toZ-ofZ (s .fits .y)) (passed c .0)
 
-cell-range-requires : tie.Need-cell-range-requires
-cell-range-requires c κs =
+cell-verdict-requires : tie.Need-cell-verdict-requires
+cell-verdict-requires c κs =
     let h = passed (c .before) in let g = ground-is c in let i = h .2 in
     (firm (h .0) (h .1) g, rw (g .depth) (record { level = i .level; column = omega (arith, i .column, i .row); row = omega (arith, i .column, i .row) }))
 
@@ -60,9 +60,8 @@ returns-2 : tie.Need-returns-2
 unfolding bounded
 returns-2 c =
     let s = c .before .before .before .before in let a = s .args in let g = ground-is (c .before) in
-    let v = c .cell-range .ensures .verdict ∙ ap (λ v. v (a .j) (a .p) (a .q)) (verdicts-are g) in let b = c .cell-range .ensures .bend ∙ bend-is g (a .j) (a .p) (a .q) in
     bounds-kept (sheet s) (a .mode) (a .j) (a .p) (a .q)
-    (ap (λ w. Cell w (c .cell-range .result .bend)) v ∙ ap (λ n. Cell (verdict (sheet s) (mode-of (a .mode)) (a .j) (a .p) (a .q)) n) b
+    (ap Cell (c .cell-verdict .ensures ∙ ap (λ v. v (a .j) (a .p) (a .q)) (verdicts-are g))
     ∙ unless-none Refused (values s) (refusal (in-cell (sheet s) (a .mode) (a .j) (a .p) (a .q))) (sym (refusal-is (c .before .before .before)) ∙ c .before .before .if1 .left))
 
 pub bounds-spec : {M : Type 1} → statement M
@@ -72,5 +71,5 @@ bounds-spec =
     cell-refusal-requires
     returns
     ground-of-requires
-    cell-range-requires
+    cell-verdict-requires
     returns-2)

@@ -43,7 +43,7 @@ returns-2 c =
     let v = verdicts (sheet s) (a .mode) in
     let w : Recorded v (a .k) 0 0 0 0 (a .place .now) (e .list-cell .last .0) (e .list-cell .result) = rw (verdicts-are g, g .depth) at (e .list-cell .ensures) in
     let n = counted-whole v (a .k) (e .list-cell .result .seen) (w .counted) in let l = listing-whole v (a .k) (a .place .now) _ (e .list-cell .result) (room (sheet s) (a .mode) _ (none b)) w in
-    listing-done (sheet s) (a .mode) (a .place .now) (none b) (n .0) (n .1) (l .0) (l .1)
+    listing-done (sheet s) (a .mode) (a .place .now) (none b) n (l .0) (l .1)
 
 pub listing-spec : {M : Type 1} → statement M
 listing-spec =

@@ -42,7 +42,7 @@ returns-2 c =
     let v = verdicts (sheet s) (a .mode) in
     let w : Examined v (a .k) 0 0 0 (a .place .now) (e .examine .last .0) (e .examine .result) = rw (verdicts-are g, g .depth) at (e .examine .ensures) in
     let n = counted-whole v (a .k) (e .examine .result) (w .counted) in
-    raster-done (sheet s) (a .mode) (a .place .now) (none b) (n .0) (n .1) (raster-whole v (a .k) (a .place .now) _ (e .examine .result) (room (sheet s) (a .mode) _ (none b)) w)
+    raster-done (sheet s) (a .mode) (a .place .now) (none b) n (raster-whole v (a .k) (a .place .now) _ (e .examine .result) (room (sheet s) (a .mode) _ (none b)) w)
 
 pub raster-spec : {M : Type 1} → statement M
 raster-spec =

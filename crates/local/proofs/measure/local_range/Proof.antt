@@ -1,5 +1,5 @@
 -- `local::measure::local_range` meets its contract: the bounds are the centre less the fall, and the centre and the rise.
-use mathlib.Core.Path.{_≡_, ap}
+use mathlib.Core.Path.{_≡_, _∙_, ap, ap₂}
 use borrow.Author.Needs.{needs}
 use lib.IntN.{_+ℤ_, _-ℤ_}
 use mir.Syntax.{w64}
@@ -8,7 +8,7 @@ use mir.Facts.{toZ-ofZ}
 use Rattle.numbers.proofs.Machine.{read64}
 use Rattle.local.specs.Table.{held}
 use Rattle.forms.specs.Bounds.{mode-of}
-use Rattle.local.specs.Range.{lower-of, upper-of}
+use Rattle.local.specs.Range.{lower-of, upper-of, ranged}
 use Rattle.local.proofs.Ranges.{read-fall, read-rise, fall-fits, rise-fits, lower-fits, upper-fits, lower-is, upper-is}
 use Rattle.local.proofs.measure.local_range.Statement.{statement}
 use Rattle.local.proofs.measure.local_range.Tie as tie
@@ -35,9 +35,6 @@ add-upper c =
     let k = c .before .before in let s = k .before .before in
     rw (read64 (k .centre-of .result) (k .centre-of .ok), read-rise (s .pre .1) (mode-of (s .args .mode)) (k .before .table-spread .ensures) (k .centre-of .ensures)) (upper-fits (s .pre .1) (mode-of (s .args .mode)) (k .before .table-spread .ensures) (k .centre-of .ensures))
 
-judge-requires : tie.Need-judge-requires
-judge-requires c κs = search needs
-
 -- ---- the two bounds, as the machine reads them
 lower-read : (k : tie.After-centre-of) →
     let s = k .before .before in
@@ -51,9 +48,9 @@ upper-read k = let s = k .before .before in rw (read64 (k .centre-of .result) (k
 
 returns : tie.Need-returns
 returns c =
-    let k = c .before .before .before in
-    record { verdict = simp (lower-read k, upper-read k) at (c .judge .ensures); bend = ap (λ r. r .bend) (k .before .table-spread .ensures) }
+    let k = c .before .before in
+    ap₂ (λ l u. ranged l u (k .before .table-spread .result .bend)) (lower-read k) (upper-read k) ∙ ap (ranged _ _) (ap (λ s. s .bend) (k .before .table-spread .ensures))
 
 pub local-range-spec : {M : Type 1} → statement M
 local-range-spec =
-    tie.close (tie.spec table-spread-requires centre-of-requires cast-lower sub-lower cast-upper add-upper judge-requires returns)
+    tie.close (tie.spec table-spread-requires centre-of-requires cast-lower sub-lower cast-upper add-upper returns)

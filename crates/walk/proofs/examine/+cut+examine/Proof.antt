@@ -1,5 +1,5 @@
 -- `walk::examine::examine` and `walk::examine::cut` meet their contracts, the two in one proof: k minus level falls.
-use mathlib.Core.Path.{_≡_, sym, _∙_}
+use mathlib.Core.Path.{_≡_, sym, _∙_, ap}
 use mathlib.Core.Logic.{inl, inr}
 use Prim.Native.Nat.{ℕ, _+_, _*_, _-_, _≤_, _<_}
 use native.Mathlib.Omega.{arith}
@@ -7,12 +7,19 @@ use borrow.Author.Needs.{needs}
 use borrow.Fn.Kinds.{In, Out}
 use borrow.Fn.PlainCycle.{Measures, is, falls, and}
 use Rattle.page.specs.Scaled.{IsCell}
+use mathlib.Core.List.{[], _∷_}
+use Rattle.verdicts.specs.Judging.{carried-bend}
+use Rattle.verdicts.specs.Walking.{colour-of}
 use Rattle.cells.specs.Cell.{verdicts-in}
 use Rattle.cells.proofs.Grounds.{depth-small, cell-small}
 use Rattle.walk.proofs.Cells.{open-by, settled, few, part-on-grid, column-fits, row-fits}
 use Rattle.walk.proofs.Painting.{examined-one, examined-cut}
-use Rattle.walk.proofs.cell.cell_colour.Kinds as cell-colour-kinds
-use Rattle.walk.proofs.cell.cell_colour.Reads as cell-colour
+use Rattle.cells.proofs.cell_verdict.Kinds as cell-verdict-kinds
+use Rattle.cells.proofs.cell_verdict.Reads as cell-verdict
+use Rattle.walk.proofs.cell.colour_of.Kinds as colour-kinds
+use Rattle.walk.proofs.cell.colour_of.Reads as colour
+use Rattle.walk.proofs.cell.bend_of.Kinds as bend-kinds
+use Rattle.walk.proofs.cell.bend_of.Reads as bend
 use Rattle.walk.proofs.cell.one_cell.Kinds as one-cell-kinds
 use Rattle.walk.proofs.cell.one_cell.Reads as one-cell
 use Rattle.walk.proofs.cell.cut_cell.Kinds as cut-cell-kinds
@@ -52,15 +59,19 @@ abbrev cut-calls : ℕ → In 1 examine-kinds.ps × Out 1 examine-kinds.ps exami
 cut-calls t = (examine-below t, examine.Post, cut-cell.Asked, cut-cell.Learnt)
 
 abbrev examine-calls : ℕ →
-    In 0 cell-colour-kinds.ps
-    × Out 0 cell-colour-kinds.ps cell-colour-kinds.r
+    In 0 cell-verdict-kinds.ps
+    × Out 0 cell-verdict-kinds.ps cell-verdict-kinds.r
+    × In 0 colour-kinds.ps
+    × Out 0 colour-kinds.ps colour-kinds.r
     × In 1 cut-kinds.ps
     × Out 1 cut-kinds.ps cut-kinds.r
     × In 1 paint-block-kinds.ps
     × Out 1 paint-block-kinds.ps paint-block-kinds.r
+    × In 0 bend-kinds.ps
+    × Out 0 bend-kinds.ps bend-kinds.r
     × In 0 one-cell-kinds.ps
     × Out 0 one-cell-kinds.ps one-cell-kinds.r
-examine-calls t = (cell-colour.Asked, cell-colour.Learnt, cut-below t, cut.Post, paint-block.Asked, paint-block.Learnt, one-cell.Asked, one-cell.Learnt)
+examine-calls t = (cell-verdict.Asked, cell-verdict.Learnt, colour.Asked, colour.Learnt, cut-below t, cut.Post, paint-block.Asked, paint-block.Learnt, bend.Asked, bend.Learnt, one-cell.Asked, one-cell.Learnt)
 
 -- ---- cut
 -- what is asked for at the start: the ground, the cell on the grid, the room, the level, and that the cell is open
@@ -126,19 +137,27 @@ cut-returns t c =
     (c .before .before .before .before .before .before .before .before .before .before .before .before .before .before .before .examine .ensures) (c .before .before .before .before .before .before .before .before .before .before .before .examine2 .ensures) (c .before .before .before .before .before .before .before .examine3 .ensures) (c .before .before .before .examine4 .ensures))
 
 -- ---- examine
+-- the cell's own colour
+painted : (t : ℕ) (c : examine-lts.After-colour-of (examine-calls t) (examine-at t) examine.Post) →
+    let a = c .before .before .before .args in c .colour-of .result ≡ colour-of (verdicts-in (a .ground) (a .level) (a .p) (a .q) ∷ [])
+painted t c = c .colour-of .ensures ∙ ap (λ w. colour-of (w ∷ [])) (c .before .cell-verdict .ensures)
+
 -- a cell that is painted is not cut: it is cleared, or it is a finest one
-whole : (t : ℕ) (c : examine-lts.Joined1 (examine-calls t) (examine-at t) examine.Post) → let s = c .before .before .before in c .before .cell-colour .result ≡ 1 → s .args .ground .k - s .args .level ≡ 0
+whole : (t : ℕ) (c : examine-lts.Joined1 (examine-calls t) (examine-at t) examine.Post) → let s = c .before .before .before .before in c .before .colour-of .result ≡ 1 → s .args .ground .k - s .args .level ≡ 0
 whole t c e = elim (c .if1 .came) [
   | inl h ↦ let l = h .1 .left in omega arith
   | inr h ↦ omega (arith, h .left, e)
 ]
 
-examine-cell-colour-requires : (t : ℕ) → examine-lts.Need-cell-colour-requires (examine-calls t) (examine-at t) examine.Post
-examine-cell-colour-requires t c κs = search needs
+examine-cell-verdict-requires : (t : ℕ) → examine-lts.Need-cell-verdict-requires (examine-calls t) (examine-at t) examine.Post
+examine-cell-verdict-requires t c κs = search needs
+
+examine-colour-of-requires : (t : ℕ) → examine-lts.Need-colour-of-requires (examine-calls t) (examine-at t) examine.Post
+examine-colour-of-requires t c κs = search needs
 
 examine-cut-requires : (t : ℕ) → examine-lts.Need-cut-requires (examine-calls t) (examine-at t) examine.Post
 examine-cut-requires t c κs =
-    let s = c .before .before .before .before .before in (omega arith, (s .pre .1 .0, s .pre .1 .1, omega arith, omega (arith, depth-small (s .pre .1 .0)), sym (c .before .before .before .cell-colour .ensures) ∙ c .before .before .if1 .taken))
+    let s = c .before .before .before .before .before .before in (omega arith, (s .pre .1 .0, s .pre .1 .1, omega arith, omega (arith, depth-small (s .pre .1 .0)), sym (painted t (c .before .before .before)) ∙ c .before .before .if1 .taken))
 
 examine-same-length : (t : ℕ) → examine-lts.Need-same-length (examine-calls t) (examine-at t) examine.Post
 examine-same-length t c = search needs
@@ -147,7 +166,10 @@ examine-returns : (t : ℕ) → examine-lts.Need-returns (examine-calls t) (exam
 examine-returns t c = c .before .before .cut .ensures
 
 examine-paint-block-requires : (t : ℕ) → examine-lts.Need-paint-block-requires (examine-calls t) (examine-at t) examine.Post
-examine-paint-block-requires t c κs = let s = c .before .before .before .before in (depth-small (s .pre .1 .0), s .pre .1 .1, omega arith)
+examine-paint-block-requires t c κs = let s = c .before .before .before .before .before in (depth-small (s .pre .1 .0), s .pre .1 .1, omega arith)
+
+examine-bend-of-requires : (t : ℕ) → examine-lts.Need-bend-of-requires (examine-calls t) (examine-at t) examine.Post
+examine-bend-of-requires t c κs = search needs
 
 examine-one-cell-requires : (t : ℕ) → examine-lts.Need-one-cell-requires (examine-calls t) (examine-at t) examine.Post
 examine-one-cell-requires t c κs = search needs
@@ -157,8 +179,9 @@ examine-same-length-2 t c = search needs
 
 examine-returns-2 : (t : ℕ) → examine-lts.Need-returns-2 (examine-calls t) (examine-at t) examine.Post
 examine-returns-2 t c =
-    let j = c .before .before .before .before .before in let s = j .before .before .before in let a = s .args in
-    rw (c .one-cell .ensures) (examined-one (verdicts-in (a .ground)) (a .ground .k) (a .level) (a .p) (a .q) _ _ _ (settled _ (a .level) _ (a .p) (a .q) _ (j .before .cell-colour .ensures) (whole t j)) (c .before .before .before .paint-block .ensures))
+    let b = c .before in let j = b .before .before .before .before .before in let s = j .before .before .before .before in let a = s .args in
+    rw (c .one-cell .ensures, b .bend-of .ensures ∙ ap carried-bend (j .before .before .cell-verdict .ensures))
+    (examined-one (verdicts-in (a .ground)) (a .ground .k) (a .level) (a .p) (a .q) _ _ _ (settled _ (a .level) _ (a .p) (a .q) _ (painted t (j .before)) (whole t j)) (b .before .before .before .paint-block .ensures))
 
 pub +cut+examine-spec : {M : Type 1} → statement M
 +cut+examine-spec =
@@ -187,11 +210,13 @@ pub +cut+examine-spec : {M : Type 1} → statement M
     (examine-calls t)
     (examine-at t)
     examine.Post
-    (examine-cell-colour-requires t)
+    (examine-cell-verdict-requires t)
+    (examine-colour-of-requires t)
     (examine-cut-requires t)
     (examine-same-length t)
     (examine-returns t)
     (examine-paint-block-requires t)
+    (examine-bend-of-requires t)
     (examine-one-cell-requires t)
     (examine-same-length-2 t)
     (examine-returns-2 t))

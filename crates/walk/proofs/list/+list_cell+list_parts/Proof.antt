@@ -1,5 +1,5 @@
 -- `walk::list::list_cell` and `walk::list::list_parts` meet their contracts, by the levels below the cell.
-use mathlib.Core.Path.{_∙_}
+use mathlib.Core.Path.{_≡_, sym, _∙_, ap}
 use mathlib.Core.Logic.{inl, inr}
 use Prim.Native.Nat.{ℕ, _+_, _*_, _-_, _<_}
 use native.Mathlib.Omega.{arith}
@@ -7,12 +7,19 @@ use lib.ListN.{length}
 use borrow.Author.Needs.{needs}
 use borrow.Fn.Kinds.{In, Out}
 use borrow.Fn.PlainCycle.{Measures, is, falls, and}
+use mathlib.Core.List.{[], _∷_}
+use Rattle.verdicts.specs.Judging.{carried-bend}
+use Rattle.verdicts.specs.Walking.{colour-of}
 use Rattle.cells.specs.Cell.{verdicts-in}
 use Rattle.cells.proofs.Grounds.{depth-small, cell-small}
 use Rattle.walk.proofs.Cells.{open-by, Settled, settled, few, part-on-grid, column-fits, row-fits}
 use Rattle.walk.proofs.Recording.{recorded-one, recorded-cut, room-one, room-first, room-second, room-third, room-fourth}
-use Rattle.walk.proofs.cell.cell_colour.Kinds as cell-colour-kinds
-use Rattle.walk.proofs.cell.cell_colour.Reads as cell-colour-reads
+use Rattle.cells.proofs.cell_verdict.Kinds as cell-verdict-kinds
+use Rattle.cells.proofs.cell_verdict.Reads as cell-verdict-reads
+use Rattle.walk.proofs.cell.colour_of.Kinds as colour-of-kinds
+use Rattle.walk.proofs.cell.colour_of.Reads as colour-of-reads
+use Rattle.walk.proofs.cell.bend_of.Kinds as bend-of-kinds
+use Rattle.walk.proofs.cell.bend_of.Reads as bend-of-reads
 use Rattle.walk.proofs.cell.cell_record.Kinds as cell-record-kinds
 use Rattle.walk.proofs.cell.cell_record.Reads as cell-record-reads
 use Rattle.walk.proofs.cell.cut_cell.Kinds as cut-cell-kinds
@@ -49,21 +56,29 @@ list-parts-below t = and 1 list-parts-kinds.ps (falls 1 list-parts-kinds.ps _<_ 
 
 -- ---- what each of the two calls
 abbrev list-cell-calls : ℕ →
-    In 0 cell-colour-kinds.ps
-    × Out 0 cell-colour-kinds.ps cell-colour-kinds.r
+    In 0 cell-verdict-kinds.ps
+    × Out 0 cell-verdict-kinds.ps cell-verdict-kinds.r
+    × In 0 colour-of-kinds.ps
+    × Out 0 colour-of-kinds.ps colour-of-kinds.r
     × In 1 list-parts-kinds.ps
     × Out 1 list-parts-kinds.ps list-parts-kinds.r
     × In 0 cell-record-kinds.ps
     × Out 0 cell-record-kinds.ps cell-record-kinds.r
+    × In 0 bend-of-kinds.ps
+    × Out 0 bend-of-kinds.ps bend-of-kinds.r
     × In 0 one-cell-kinds.ps
     × Out 0 one-cell-kinds.ps one-cell-kinds.r
 list-cell-calls t = (
-  cell-colour-reads.Asked,
-  cell-colour-reads.Learnt,
+  cell-verdict-reads.Asked,
+  cell-verdict-reads.Learnt,
+  colour-of-reads.Asked,
+  colour-of-reads.Learnt,
   list-parts-below t,
   list-parts.Post,
   cell-record-reads.Asked,
   cell-record-reads.Learnt,
+  bend-of-reads.Asked,
+  bend-of-reads.Learnt,
   one-cell-reads.Asked,
   one-cell-reads.Learnt,
 )
@@ -76,14 +91,22 @@ abbrev list-parts-calls : ℕ →
 list-parts-calls t = (list-cell-below t, list-cell.Post, cut-cell-reads.Asked, cut-cell-reads.Learnt)
 
 -- ---- `list_cell`
-list-cell-cell-colour-requires : (t : ℕ) → list-cell-lts.Need-cell-colour-requires (list-cell-calls t) (list-cell-at t) list-cell.Post
-list-cell-cell-colour-requires t c κs = search needs
+list-cell-cell-verdict-requires : (t : ℕ) → list-cell-lts.Need-cell-verdict-requires (list-cell-calls t) (list-cell-at t) list-cell.Post
+list-cell-cell-verdict-requires t c κs = search needs
+
+list-cell-colour-of-requires : (t : ℕ) → list-cell-lts.Need-colour-of-requires (list-cell-calls t) (list-cell-at t) list-cell.Post
+list-cell-colour-of-requires t c κs = search needs
+
+-- the cell's own colour
+list-cell-painted : (t : ℕ) (c : list-cell-lts.After-colour-of (list-cell-calls t) (list-cell-at t) list-cell.Post) →
+    let a = c .before .before .before .args in c .colour-of .result ≡ colour-of (verdicts-in (a .ground) (a .level) (a .p) (a .q) ∷ [])
+list-cell-painted t c = c .colour-of .ensures ∙ ap (λ w. colour-of (w ∷ [])) (c .before .cell-verdict .ensures)
 
 list-cell-list-parts-requires : (t : ℕ) → list-cell-lts.Need-list-parts-requires (list-cell-calls t) (list-cell-at t) list-cell.Post
 list-cell-list-parts-requires t c κs =
     let open-one = c .before .before .before in
-    let o = open-one .before .before .before .pre .1 in
-    (omega arith, (o .0, o .1, o .2, c .before .if2 .taken, rw (← open-one .before .cell-colour .ensures) (open-one .if1 .taken)))
+    let o = open-one .before .before .before .before .pre .1 in
+    (omega arith, (o .0, o .1, o .2, c .before .if2 .taken, sym (list-cell-painted t (open-one .before)) ∙ open-one .if1 .taken))
 
 list-cell-same-length : (t : ℕ) → list-cell-lts.Need-same-length (list-cell-calls t) (list-cell-at t) list-cell.Post
 list-cell-same-length t c = search needs
@@ -93,7 +116,7 @@ list-cell-returns t c = c .before .before .list-parts .ensures
 
 list-cell-cell-record-requires : (t : ℕ) → list-cell-lts.Need-cell-record-requires (list-cell-calls t) (list-cell-at t) list-cell.Post
 list-cell-cell-record-requires t c κs =
-    let o = c .before .before .before .pre .1 in let m = cell-small (o .0) _ _ _ (o .1) in
+    let o = c .before .before .before .before .pre .1 in let m = cell-small (o .0) _ _ _ (o .1) in
     (omega (arith, depth-small (o .0), o .1 .level), m .0, m .1)
 
 -- the place has an entry for the record of the cell itself
@@ -101,22 +124,25 @@ list-cell-room : (t : ℕ) (s : list-cell-lts.Start (list-cell-calls t) (list-ce
 list-cell-room t s = room-one (s .args .ground .k) (s .args .level) (s .args .at) (s .args .place .now) (s .pre .1 .2)
 
 list-cell-mul-place : (t : ℕ) → list-cell-lts.Need-mul-place (list-cell-calls t) (list-cell-at t) list-cell.Post
-list-cell-mul-place t c = omega (arith, list-cell-room t (c .before .before .before .before))
+list-cell-mul-place t c = omega (arith, list-cell-room t (c .before .before .before .before .before))
 
 list-cell-slice-write-place : (t : ℕ) → list-cell-lts.Need-slice-write-place (list-cell-calls t) (list-cell-at t) list-cell.Post
-list-cell-slice-write-place t c = list-cell-room t (c .before .before .before .before)
+list-cell-slice-write-place t c = list-cell-room t (c .before .before .before .before .before)
+
+list-cell-bend-of-requires : (t : ℕ) → list-cell-lts.Need-bend-of-requires (list-cell-calls t) (list-cell-at t) list-cell.Post
+list-cell-bend-of-requires t c κs = search needs
 
 list-cell-one-cell-requires : (t : ℕ) → list-cell-lts.Need-one-cell-requires (list-cell-calls t) (list-cell-at t) list-cell.Post
 list-cell-one-cell-requires t c κs = search needs
 
 list-cell-add-end : (t : ℕ) → list-cell-lts.Need-add-end (list-cell-calls t) (list-cell-at t) list-cell.Post
-list-cell-add-end t c = omega (arith, list-cell-room t (c .before .before .before .before .before))
+list-cell-add-end t c = omega (arith, list-cell-room t (c .before .before .before .before .before .before .before))
 
 -- a cell that is not cut: it is cleared, or it is a finest one
 list-cell-settled : (t : ℕ) (c : list-cell-lts.Joined1 (list-cell-calls t) (list-cell-at t) list-cell.Post) →
-    let a = c .before .before .before .args in
-    Settled (verdicts-in (a .ground)) (a .level) (a .ground .k - a .level) (a .p) (a .q) (c .before .cell-colour .result)
-list-cell-settled t c = settled _ _ _ _ _ _ (c .before .cell-colour .ensures) (λ e. elim (c .if1 .came) [
+    let a = c .before .before .before .before .args in
+    Settled (verdicts-in (a .ground)) (a .level) (a .ground .k - a .level) (a .p) (a .q) (c .before .colour-of .result)
+list-cell-settled t c = settled _ _ _ _ _ _ (list-cell-painted t (c .before)) (λ e. elim (c .if1 .came) [
   | inl d ↦ omega arith
   | inr n ↦ absurd (n .left e)
 ])
@@ -126,7 +152,8 @@ list-cell-same-length-2 t c = search needs
 
 list-cell-returns-2 : (t : ℕ) → list-cell-lts.Need-returns-2 (list-cell-calls t) (list-cell-at t) list-cell.Post
 list-cell-returns-2 t c =
-    rw (c .before .cell-record .ensures, c .one-cell .ensures) (recorded-one (list-cell-settled t (c .before .before)))
+    let b = c .before in let j = b .before .before in
+    rw (b .before .cell-record .ensures, c .one-cell .ensures, b .bend-of .ensures ∙ ap carried-bend (j .before .before .cell-verdict .ensures)) (recorded-one (list-cell-settled t j))
 
 -- ---- `list_parts`: below, x₁ to x₄ are what is known after its first to its fourth call of `list_cell`
 list-parts-add-next : (t : ℕ) → list-parts-lts.Need-add-next (list-parts-calls t) (list-parts-at t) list-parts.Post
@@ -216,13 +243,15 @@ list-parts-returns t c =
 pub +list-cell+list-parts-spec : {M : Type 1} → statement M
 +list-cell+list-parts-spec = close μ-list-cell μ-list-parts
     (λ t. list-cell-lts.spec (list-cell-calls t) (list-cell-at t) list-cell.Post
-    (list-cell-cell-colour-requires t)
+    (list-cell-cell-verdict-requires t)
+    (list-cell-colour-of-requires t)
     (list-cell-list-parts-requires t)
     (list-cell-same-length t)
     (list-cell-returns t)
     (list-cell-cell-record-requires t)
     (list-cell-mul-place t)
     (list-cell-slice-write-place t)
+    (list-cell-bend-of-requires t)
     (list-cell-one-cell-requires t)
     (list-cell-add-end t)
     (list-cell-same-length-2 t)

@@ -1,4 +1,4 @@
--- `cells::cell::cell_range` meets its contract: each number is what the machine reads, and the rest is `Grounds`.
+-- `cells::cell::cell_verdict` meets its contract: each number is what the machine reads, and the rest is `Grounds`.
 use mathlib.Core.Path.{_≡_, _∙_}
 use Prim.Native.Nat.{_+_, _*_}
 use native.Mathlib.Omega.{arith}
@@ -10,9 +10,9 @@ use mir.Facts.{toZ-ofZ}
 use Rattle.local.specs.Table.{Tabled}
 use Rattle.numbers.proofs.Machine.{fits64, read64}
 use Rattle.cells.specs.Cell.{half-in, table-in}
-use Rattle.cells.proofs.Grounds.{across-small, along-small, cell-small, cell-movable, cell-light, cell-ranged}
-use Rattle.cells.proofs.cell.cell_range.Statement.{statement}
-use Rattle.cells.proofs.cell.cell_range.Tie as tie
+use Rattle.cells.proofs.Grounds.{across-small, along-small, cell-small, cell-movable, cell-light, cell-judged}
+use Rattle.cells.proofs.cell.cell_verdict.Statement.{statement}
+use Rattle.cells.proofs.cell.cell_verdict.Tie as tie
 
 -- ---- what each number is
 half-is : (c : tie.After-half-side) → toZ w64 (ofZ w64 (c .half-side .result)) ≡ pos (half-in (c .before .args .ground) (c .before .args .j))
@@ -55,12 +55,16 @@ local-range-requires : tie.Need-local-range-requires
 local-range-requires c κs =
     let s = c .before .before .before .before .before .before .before in let a = s .args in (s .pre .0 .mode, cell-light (s .pre .0) (a .j) (a .p) (a .q) (s .pre .1) (there-is c))
 
+judge-requires : tie.Need-judge-requires
+judge-requires c κs = search needs
+
 returns : tie.Need-returns
 returns c =
-    let s = c .before .before .before .before .before .before .before .before in let a = s .args in cell-ranged (s .pre .0) (a .j) (a .p) (a .q) (s .pre .1) (there-is (c .before)) (c .local-range .ensures)
+    let r = c .before in let s = r .before .before .before .before .before .before .before .before in let a = s .args in
+    c .judge .ensures ∙ cell-judged (s .pre .0) (a .j) (a .p) (a .q) (s .pre .1) (there-is (r .before)) (r .local-range .ensures)
 
-pub cell-range-spec : {M : Type 1} → statement M
-cell-range-spec =
+pub cell-verdict-spec : {M : Type 1} → statement M
+cell-verdict-spec =
     tie.close
     (tie.spec
     half-side-requires
@@ -68,4 +72,5 @@ cell-range-spec =
     centre-requires-2
     local-form-requires
     local-range-requires
+    judge-requires
     returns)
