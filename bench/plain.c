@@ -1,9 +1,10 @@
 /* The work of the calls raster and listing in plain C, for a timing beside the proved program.
 
    It goes the same way: the weight with a ceiling, the scaled form once, and for each cell that is visited the local form about its centre
-   by Horner's rule in two turns, the range with its bend, the verdict, and then a cut, a block of the raster, or a record: one recursion for
-   rasters, which stands here, and one for listings, which stands in bench/plain.h with the rest. It reads and answers cases as crates/compare
-   does, so that both can be fed one file and their answers compared byte for byte; it knows only calls 3 and 4. Nothing here is proved.
+   by Horner's rule in two turns, the range with its bend, the verdict, and then a cut, or the largest bend so far of the coloured cells and a block
+   of the raster or a record: one recursion for rasters, which stands here, and one for listings, which stands in bench/plain.h with the rest. It
+   reads and answers cases as crates/compare does, so that both can be fed one file and their answers compared byte for byte; it knows only calls 3
+   and 4. Nothing here is proved.
 
    The proved program is for x86-64: where that is run under an emulator, a fair time asks that this file be compiled for x86-64, too. */
 #include "plain.h"
@@ -25,13 +26,13 @@ static void paint_block(struct walk *walk, uint32_t level, uint32_t p, uint32_t 
 static void cut(struct walk *walk, uint32_t level, uint32_t p, uint32_t q);
 
 static void examine(struct walk *walk, uint32_t level, uint32_t p, uint32_t q) {
-    enum verdict verdict = verdict_on(walk, level, p, q);
-    if (verdict == COLOURED && level < walk->sheet->k) {
+    struct range range = range_at(walk, level, p, q);
+    if (range.verdict == COLOURED && level < walk->sheet->k) {
         cut(walk, level, p, q);
         return;
     }
-    walk->coloured += verdict == COLOURED;
-    paint_block(walk, level, p, q, (uint8_t)verdict);
+    count_cell(walk, &range);
+    paint_block(walk, level, p, q, (uint8_t)range.verdict);
 }
 
 static void cut(struct walk *walk, uint32_t level, uint32_t p, uint32_t q) {
@@ -44,7 +45,6 @@ static void cut(struct walk *walk, uint32_t level, uint32_t p, uint32_t q) {
 static void paint_sheet(struct walk *walk, uint8_t *raster) {
     walk->raster = raster;
     examine(walk, 0, 0, 0);
-    sink = walk->last.bend;
 }
 
 /* ---- cases and answers */
@@ -73,10 +73,10 @@ static bool walk_sheet(const struct sheet *sheet, size_t entries, uint8_t *raste
     struct walk walk = walk_of(sheet);
     if (raster != NULL) {
         paint_sheet(&walk, raster);
-        return write_answer((uint64_t[5]){0, walk.visited, walk.coloured});
+        return write_answer((uint64_t[5]){0, walk.visited, walk.coloured, walk.largest_bend});
     }
     list_sheet(&walk, records);
-    return write_answer((uint64_t[5]){0, walk.length, walk.visited, walk.coloured});
+    return write_answer((uint64_t[5]){0, walk.length, walk.visited, walk.coloured, walk.largest_bend});
 }
 
 static bool raster_case(const struct sheet *sheet, size_t entries) {

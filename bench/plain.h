@@ -148,10 +148,10 @@ struct walk {
     struct form form;
     int64_t across, along;
     uint32_t visited, coloured;
+    uint64_t largest_bend;
     uint8_t *raster;
     uint32_t *records;
     size_t length;
-    struct range last;
 };
 
 static struct walk walk_of(const struct sheet *sheet) {
@@ -159,21 +159,25 @@ static struct walk walk_of(const struct sheet *sheet) {
     return (struct walk){.sheet = sheet, .form = scaled_form(sheet), .across = unit * sheet->x, .along = unit * sheet->y};
 }
 
-/* No walk answers the bounds or the bend of a cell, and a compiler would leave out the sum of the bend. The proved program works out all three
-   for each cell. So the range of every cell is kept in the walk, and at its end the last one is read from there into this. */
-static volatile uint64_t sink;
-
 static int64_t centre(int64_t corner, uint32_t p, int64_t h) { return corner + (2 * (int64_t)p + 1) * h; }
 
-static enum verdict verdict_on(struct walk *walk, uint32_t level, uint32_t p, uint32_t q) {
+/* The proved program works out the bounds and the bend of each cell that is visited. Here only the bends of coloured cells are looked at, and a
+   compiler may leave out the others; gcc -O2 sums all of them beside the bounds. */
+static struct range range_at(struct walk *walk, uint32_t level, uint32_t p, uint32_t q) {
     const struct sheet *sheet = walk->sheet;
     int64_t h = power(sheet->s + sheet->k - level);
     struct form half, there;
     turn(&walk->form, centre(walk->along, q, h), h, &half);
     turn(&half, centre(walk->across, p, h), h, &there);
-    walk->last = range_of(&there, sheet->mode);
     walk->visited++;
-    return walk->last.verdict;
+    return range_of(&there, sheet->mode);
+}
+
+/* Counts a cell that is not cut, where it is coloured. */
+static void count_cell(struct walk *walk, const struct range *range) {
+    if (range->verdict != COLOURED) return;
+    walk->coloured++;
+    walk->largest_bend = larger(walk->largest_bend, range->bend);
 }
 
 /* ---- the listing */
@@ -181,13 +185,13 @@ static enum verdict verdict_on(struct walk *walk, uint32_t level, uint32_t p, ui
 static void list_parts(struct walk *walk, uint32_t level, uint32_t p, uint32_t q);
 
 static void list_cell(struct walk *walk, uint32_t level, uint32_t p, uint32_t q) {
-    enum verdict verdict = verdict_on(walk, level, p, q);
-    if (verdict == COLOURED && level < walk->sheet->k) {
+    struct range range = range_at(walk, level, p, q);
+    if (range.verdict == COLOURED && level < walk->sheet->k) {
         list_parts(walk, level, p, q);
         return;
     }
-    walk->coloured += verdict == COLOURED;
-    walk->records[walk->length++] = (uint32_t)verdict + 4 * p + 512 * q + 65536 * level;
+    count_cell(walk, &range);
+    walk->records[walk->length++] = (uint32_t)range.verdict + 4 * p + 512 * q + 65536 * level;
 }
 
 static void list_parts(struct walk *walk, uint32_t level, uint32_t p, uint32_t q) {
@@ -200,7 +204,6 @@ static void list_parts(struct walk *walk, uint32_t level, uint32_t p, uint32_t q
 static void list_sheet(struct walk *walk, uint32_t *records) {
     walk->records = records;
     list_cell(walk, 0, 0, 0);
-    sink = walk->last.bend;
 }
 
 /* ---- bytes */

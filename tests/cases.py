@@ -138,11 +138,18 @@ def near(rng, sheet):
     return other if LEAST31 <= -there <= MOST31 and second.weight_of(*other) < 2 ** 62 else sheet
 
 
-def heavy(rng, weight, depths=range(8)):
-    """A sheet whose weight is 2^62, or the last below it that its scale allows."""
+def about_0(rng):
+    """A square with its middle at the origin."""
+    s = rng.randint(1, 10)
+    return -2 ** (s - 1), -2 ** (s - 1), s
+
+
+def heavy(rng, weight, depths=range(8), bent=False):
+    """A sheet whose weight is 2^62, or the last below it that its scale allows. Where it is to be bent its square has the middle at the origin: there
+    the weight is that of the local form, and the bend nearly all of it."""
     while True:
         d, k = rng.randint(2, 8), rng.choice(depths)
-        X, Y, s = square(rng, rng.randint(0, 20))
+        X, Y, s = about_0(rng) if bent else square(rng, rng.randint(0, 20))
         R, named = second.limit(X, Y, s), {}
         left = weight >> (k + 1) * d
         for i, j in sorted(rng.sample(second.exponents(d), len(second.exponents(d))), key=lambda e: -sum(e)):
@@ -241,7 +248,7 @@ def random_case(rng, call, d, k):
 
 def random_walks(rng, d, k):
     """A raster and a listing of one sheet in one mode, spoiled or not, each with a place of its own."""
-    sheet = heavy(rng, 2 ** 62 - 1, (k,)) if rng.random() < 0.04 else accepted(rng, d, k)
+    sheet = heavy(rng, 2 ** 62 - 1, (k,), rng.random() < 0.5) if rng.random() < 0.04 else accepted(rng, d, k)
     g, fate = given(rng, near(rng, sheet) if rng.random() < 0.85 else sheet), rng.random()
     for number in rng.sample(SHARED, 1 if fate < 0.2 else rng.randint(2, 3) if fate < 0.3 else 0):
         g = spoiled(rng, "raster", g, number)
@@ -314,6 +321,13 @@ def hidden(rng):
             yield from ((call, tuple(sheet) + (mode, enough(rng, k))) for mode in (0, 1) for call in WALKS)
 
 
+def bent(rng):
+    """Raster and listing of sheets whose largest bend is nearly 2^62, and of deeper ones, on which the sum of all bends is more than that."""
+    for k in (0, 0, 1, 1, 2):
+        sheet = heavy(rng, 2 ** 62 - 1, (k,), True)
+        yield from ((call, tuple(sheet) + (mode, enough(rng, k))) for mode in (0, 1) for call in WALKS)
+
+
 def at_limits(rng):
     """Every call on the sheets at the limits. A sheet that is refused whatever the place is lent a short one, mostly."""
     for sheet in limits():
@@ -326,8 +340,8 @@ def at_limits(rng):
 
 def all_cases(seed, count):
     """The figures and the cells of the sheets with printed tallies, the limits, places of every kind, walks that hide an open cell, so many
-    random cases, and a third as many walks."""
+    random cases, a third as many walks, and sheets that bend as much as a sheet can."""
     rng = random.Random(seed)
     cases = [*figures(), *tallied_cells(), *at_limits(rng), *lent(rng), *hidden(rng)]
-    cases += [*random_cases(rng, count), *random_pairs(rng, count // 6)]
+    cases += [*random_cases(rng, count), *random_pairs(rng, count // 6), *bent(rng)]
     return [*with_places(random.Random(f"{seed} places"), cases)]

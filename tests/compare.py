@@ -5,15 +5,17 @@
 
 The program target/bin/compare is run once, on all cases of tests/cases.py; crates/compare/src says how a case and an answer are written
 in bytes. A case says what a lent place holds beforehand. Every answer is compared with that of tests/second.py, with every entry of a lent
-place as it is afterwards; and the tallies that the page prints are counted by walking through the program's verdicts. A run in which some
-refusal, verdict, degree or depth, some kind of place at some depth in some mode, or some content of some kind of place, never came up fails, too.
+place as it is afterwards; and the tallies of the page's sheets are counted by walking through the program's verdicts and bends. A run in which
+some refusal, verdict, degree or depth, some kind of place at some depth in some mode, some content of some kind of place, or some kind of
+largest bend in some mode, never came up fails, too.
 
 Then the second program is held to the page. Demand 3 is tried on the accepted cells: at points with fractional coordinates in the closed
 cell, at its corners, and, where nothing bends, at the point where the value must be 0. Of every walk, the visited cells are those to which
 cutting open cells comes, in that order; visited is 1 plus 4 times the cells cut, and the listing unfolds to the raster.
 
 The proved program is held to the page alone, too, where it gave the raster and the listing of one sheet in one mode: its listing unfolds to
-its raster, and both tallies are counted from the records.
+its raster, both tallies are counted from the records, and both have one largest bend. Of each of its walks, the largest bend is held to what its
+coloured cells have, all or some of them.
 """
 import argparse
 import ast
@@ -27,12 +29,13 @@ sys.dont_write_bytecode = True  # nothing is left in the tree
 import second
 import second_walk
 from cases import CALLS, CONTENTS, COUNT, EDGE, ENTRIES, REFUSALS, WALKS, all_cases, filled
+from demands import LARGEST_BENDS, demand_3, largest_bend_fault, largest_bends_of
 from program import BUILT, code, number, written_by
 
 PROGRAM = BUILT / "compare"
 VERDICTS = {1: "above", 2: "below", 3: "open"}
 # how many numbers each call answers, beside a place
-LENGTHS = {"check": 3, "value": 2, "bounds": 5, "raster": 3, "listing": 4}
+LENGTHS = {"check": 3, "value": 2, "bounds": 5, "raster": 4, "listing": 5}
 # the bytes of an entry of a lent place: how many, and how they are packed
 WIDTHS = {"raster": 1, "listing": 4}
 PACKED = {"raster": "B", "listing": "I"}
@@ -125,15 +128,18 @@ def walk_of(args):
 
 
 def second_answers(cases):
-    """The answers, what is wrong with the walks, and how many they are. A walk is looked at when it is answered: it is kept only for a while."""
-    expected, walks = [], {}
+    """The answers, what is wrong with the walks, and the walks, each with the kinds that its largest bend is of. A walk is looked at when it is
+    answered: it is kept only for a while."""
+    expected, faults, walks = [], [], {}
     for call, args in cases:
         expected.append(second_answer(call, args))
-        if call in WALKS and expected[-1][0] == 0:
+        if call in WALKS and expected[-1][0] == 0 and walk_of(args) not in walks:
             walk = walk_of(args)
-            if walk not in walks:
-                walks[walk] = (call, args), second.walk_fault(*walk)
-    return expected, [(case, fault) for case, fault in walks.values() if fault], len(walks)
+            walks[walk] = largest_bends_of(second.walked(*walk), args[5])
+            fault = second.walk_fault(*walk)
+            if fault:
+                faults.append(((call, args), fault))
+    return expected, faults, walks
 
 
 # ---- the comparison
@@ -163,7 +169,7 @@ def faults_of_walks(faults):
     return [f"the second program's walk is wrong on --case \"{shown(*case)}\": {fault}" for case, fault in faults]
 
 
-def met(call, args, answered):
+def met(call, args, answered, walks):
     """The things that a case shows, of those that every run must show."""
     refusal, *values = answered
     d, coefficients, X, Y, s, k, *rest = args
@@ -188,6 +194,7 @@ def met(call, args, answered):
             yield call, "no bend", verdict
     if call in WALKS:
         yield call, "depth", k, "mode", rest[0], "accepted"
+        yield from ((call, "mode", rest[0], "a largest bend", kind) for kind in walks[walk_of(args)])
     if call == "raster":
         yield from ((call, "depth", k, "mode", rest[0], "colour", colour) for colour in set(values[-1][:4 ** k]))
     if call == "listing":
@@ -239,6 +246,7 @@ def wanted_of_walks():
                 yield call, "depth", k, "mode", mode, "accepted"
                 yield from ((call, "depth", k, "mode", mode, "a place", kind, refusal) for kind, refusal in KINDS.items()
                             if k > 0 or "missing" not in kind)
+        yield from ((call, "mode", mode, "a largest bend", kind) for mode in (0, 1) for kind in LARGEST_BENDS)
     for mode in (0, 1):
         for j in range(8):
             yield from (("raster", "depth", j, "mode", mode, "colour", colour) for colour in (1, 2, 3))
@@ -260,23 +268,26 @@ def wanted():
     yield from (("bounds", "no bend", verdict) for verdict in VERDICTS.values())
 
 
-def tally(cases, expected):
-    """Prints how often each refusal and verdict came up, and answers what never did."""
-    found = collections.Counter(thing for case, answered in zip(cases, expected) for thing in met(*case, answered))
+def tally(cases, expected, walks):
+    """Prints how often each refusal, verdict and kind of largest bend came up, and answers what never did."""
+    found = collections.Counter(thing for case, answered in zip(cases, expected) for thing in met(*case, answered, walks))
     for call in CALLS:
         refusals = ", ".join(f"{refusal}: {found[call, 'refused by', refusal]}" for refusal in REFUSALS[call])
         print(f"{call}: {found[call, 'accepted']} accepted, refused by {refusals}")
     for kind in (("mode", 0), ("mode", 1), ("no bend",)):
         verdicts = ", ".join(f"{found[('bounds', *kind, verdict)]} {verdict}" for verdict in VERDICTS.values())
         print(f"{' '.join(map(str, kind))}: {verdicts}")
+    for kind in LARGEST_BENDS:
+        print(f"a largest bend {kind}: " + ", ".join(f"{found[call, 'mode', mode, 'a largest bend', kind]} {call}s in mode {mode}"
+                                                     for call in WALKS for mode in (0, 1)))
     return [" ".join(map(str, thing)) for thing in wanted() if not found[thing]]
 
 
 def tallies(cases, answers):
-    """The page's tallies that a walk by the proved program's verdicts does not count."""
-    told = {shown(*case): answered for case, answered in zip(cases, answers)}
+    """The tallies of the page's sheets that a walk by the proved program's verdicts and bends does not have."""
+    told = {shown(*case): second.seen(*answered[1:]) for case, answered in zip(cases, answers) if case[0] == "bounds" and answered[0] == 0}
     for name, sheet, mode, counted in second.TALLIES:
-        found = second_walk.tally(lambda j, p, q: told.get(shown("bounds", sheet + (mode, j, p, q)), (0, None))[1], sheet[-1])
+        found = second_walk.tally(lambda *at: told.get(shown("bounds", sheet + (mode, *at)), (None, None)), sheet[-1])
         if found != counted:
             yield f"{name}: a walk in mode {mode} counts {found}, and the page says {counted}"
 
@@ -285,8 +296,8 @@ def tallies(cases, answers):
 
 def pair_fault(k, raster, listing):
     """What is wrong between a raster and a listing of one walk, or nothing."""
-    _, *tally, place = raster
-    _, length, *listed, entries = listing
+    _, *tally, bend, place = raster
+    _, length, *listed, listed_bend, entries = listing
     records = entries[:length]
     if second_walk.unfolded(records, k) != place[:4 ** k]:
         return "the listing does not unfold to the raster"
@@ -296,54 +307,39 @@ def pair_fault(k, raster, listing):
         return f"the tallies are {tally} and {listed}, and the records count {counted}"
     if 3 * counted[0] != 4 * length - 1:
         return f"{length} records are written, and {counted[0]} cells are visited"
-    return None
+    return f"the largest bends are {bend} and {listed_bend}" if bend != listed_bend else None
 
 
-def pairs(cases, answers):
-    """The walks of which both raster and listing were answered, and what is wrong between the first of each, or nothing."""
+def firsts(cases, answers):
+    """Of each walk that was answered the first raster and the first listing, under the call and the walk."""
     first = {call: {} for call in WALKS}
     for (call, args), answered in zip(cases, answers):
         if call in WALKS and answered[0] == 0:
             first[call].setdefault(walk_of(args), answered)
+    return first
+
+
+def pairs(first):
+    """The walks of which both raster and listing were answered, and what is wrong between the two, or nothing."""
     rasters, listings = first["raster"], first["listing"]
     return {walk: pair_fault(walk[5], rasters[walk], listings[walk]) for walk in rasters if walk in listings}
 
 
-# ---- demand 3
+def coloured_by(call, k, answered):
+    """The coloured cells that a raster or a listing tells of."""
+    *_, place = answered
+    if call == "raster":
+        return [(k, at % 2 ** k, at // 2 ** k) for at, colour in enumerate(place[:4 ** k]) if colour == 1]
+    return [second_walk.cell_of(record) for record in place[:answered[1]] if second_walk.colour_of(record) == 1]
 
-def within(rng, centre, H, Q):
-    """A numerator over Q of a coordinate in the closed cell: an edge, the middle, or any other."""
-    low, high = Q * (centre - H), Q * (centre + H)
-    return rng.choice((low, high, Q * centre, rng.randint(low, high), rng.randint(low, high), rng.randint(low, high)))
+
+def bend_faults(rng, first):
+    """Of each walk what is wrong with its largest bend, or nothing: by its raster, or by its listing where there is no raster."""
+    told = {walk: (call, answered) for call in ("listing", "raster") for walk, answered in first[call].items()}
+    return {walk: largest_bend_fault(rng, walk, coloured_by(call, walk[5], answered), answered[-2]) for walk, (call, answered) in told.items()}
 
 
-def demand_3(rng, args, answered):
-    """What is wrong with a cell's bounds, or nothing."""
-    d, coefficients, X, Y, s, k, _, j, p, q = args
-    _, verdict, lower, upper, bend = answered
-    U0, V0, H = second.cell(X, Y, s, k, j, p, q)
-    for Q in (1, rng.choice((2, 3, 7, 10 ** 6)), rng.randint(1, 2 ** 32), rng.randint(1, 2 ** 80)):
-        M, N = within(rng, U0, H, Q), within(rng, V0, H, Q)
-        there = second.polynomial(d, coefficients, k, M, N, Q)
-        if not Q ** d * lower <= there <= Q ** d * upper:
-            return f"at {M}/{Q}, {N}/{Q} the value lies outside the bounds"
-        if verdict == "above" and there <= 0 or verdict == "below" and there >= 0:
-            return f"at {M}/{Q}, {N}/{Q} the cell is not {verdict}"
-    corners = {(U, V): second.value(d, coefficients, X, Y, s, k, U, V) for U in (U0 - H, U0 + H) for V in (V0 - H, V0 + H)}
-    if any(refusal for refusal, _ in corners.values()):
-        return "a corner is refused"
-    values = sorted((F, corner) for corner, (_, F) in corners.items())
-    (least, low_corner), (most, high_corner) = values[0], values[-1]
-    if least - 2 * bend > lower or upper > most + 2 * bend:
-        return "a bound overshoots the corners by more than twice the bend"
-    if bend == 0 and verdict == "open":
-        # the value is lower at one corner and upper at the other, and changes evenly between them
-        Q = upper - lower or 1
-        M, N = (upper * low - lower * high if upper > lower else low for low, high in zip(low_corner, high_corner))
-        if max(abs(M - Q * U0), abs(N - Q * V0)) > Q * H or second.polynomial(d, coefficients, k, M, N, Q) != 0:
-            return f"nothing bends, and the value is not 0 at {M}/{Q}, {N}/{Q}"
-    return None
-
+# ---- all of it
 
 def main():
     options = argparse.ArgumentParser(description="Compares the proved program with the second program.")
@@ -369,16 +365,20 @@ def main():
     broken = [(args, fault) for args, answered in cells if (fault := demand_3(rng, args, answered))]
     for args, fault in broken[:SHOWN]:
         print(f"demand 3 does not hold on --case \"{shown('bounds', args)}\": {fault}")
-    paired = pairs(cases, answers)
+    first = firsts(cases, answers)
+    paired, bent = pairs(first), bend_faults(rng, first)
     unlike = [(walk, fault) for walk, fault in paired.items() if fault]
     for walk, fault in unlike[:SHOWN]:
         print(f"the proved program's raster and listing of {walk} are not of one walk: {fault}")
+    misbent = [(walk, fault) for walk, fault in bent.items() if fault]
+    for walk, fault in misbent[:SHOWN]:
+        print(f"the proved program's walk of {walk} has another largest bend: {fault}")
     if chosen.case:
         print(f"the second program: {brief(expected[0], answers[0])}")
         missing, miscounted = [], []
     else:
         compared = {walk[-2:] for walk in paired}
-        missing = tally(cases, expected)
+        missing = tally(cases, expected, walks)
         missing += [f"raster and listing of one walk, depth {k} mode {mode}" for k in range(8) for mode in (0, 1) if (k, mode) not in compared]
         for thing in missing:
             print(f"never came up: {thing}")
@@ -386,9 +386,11 @@ def main():
         for fault in miscounted:
             print(fault)
     print(f"compare: seed {chosen.seed}, {len(cases) - len(wrong)} of {len(cases)} answers agree, "
-          f"demand 3 holds on {len(cells) - len(broken)} of {len(cells)} cells, {walks - len(faults)} of {walks} walks are as the page says, "
-          f"the proved listing unfolds to the proved raster on {len(paired) - len(unlike)} of {len(paired)}")
-    return 1 if wrong or broken or faults or unlike or missing or miscounted else 0
+          f"demand 3 holds on {len(cells) - len(broken)} of {len(cells)} cells, "
+          f"{len(walks) - len(faults)} of {len(walks)} walks are as the page says, "
+          f"the proved listing unfolds to the proved raster on {len(paired) - len(unlike)} of {len(paired)}, "
+          f"the largest bend is that of the coloured cells on {len(bent) - len(misbent)} of {len(bent)}")
+    return 1 if wrong or broken or faults or unlike or misbent or missing or miscounted else 0
 
 
 if __name__ == "__main__":

@@ -12,7 +12,8 @@ place after it and at the end. Every walk of the second program is held to what 
 At the end stand, for each call, the accepted cases by degree and by depth, and the cases that agreed by their number, 0 for an accepted one, with
 how many of a call's cases are distinct, whatever their places hold; the number of a case of answer is that of its text. Anything that disagrees makes
 the run fail, as does a number that the call can't be refused by; and where there are as many cases as by default, or more, a number, degree or depth,
-or a kind of place or content, that never came up. So many take half an hour of one processor, half of that on two: the gate has 300 of each call.
+or a kind of place, content or largest bend, that never came up. So many take half an hour of one processor, half of that on two: the gate has 300 of
+each call.
 """
 import argparse
 import collections
@@ -29,6 +30,7 @@ import cases
 import compare
 import text_places
 import texts
+from demands import LARGEST_BENDS
 from many_cases import random_text, single_cases, walk_cases
 from program import BUILT
 
@@ -40,8 +42,8 @@ KINDS = {"walks": (cases.WALKS, 500), "texts": (("read", "answer"), 1000), "shee
 SHOWN = 5
 
 Part = collections.namedtuple("Part", "kind number count")
-# how often a call's answers agreed, by number and by what its place was, and of accepted cases by degree and depth; a call's distinct cases; and
-# what is wrong
+# how often a call's answers agreed, by number and by what its place was, and of accepted cases by degree, depth and kind of largest bend; a call's
+# distinct cases; and what is wrong
 Found = collections.namedtuple("Found", "agreed distinct faults")
 
 
@@ -60,13 +62,14 @@ def nothing_yet():
     return Found(collections.Counter(), collections.defaultdict(set), [])
 
 
-def noted(found, call, given, number, d, k, place, agrees):
+def noted(found, call, given, number, d, k, place, agrees, largest_bend=()):
     """Counts one case, and keeps a few bytes of it that others share only by a rare chance."""
     found.distinct[call].add(hashlib.blake2b(given, digest_size=10).digest())
     if not agrees:
         return
     found.agreed[call, "number", number] += 1
     found.agreed.update((call, "place", thing) for thing in place)
+    found.agreed.update((call, "largest bend", kind) for kind in largest_bend)
     if number == 0:
         found.agreed[call, "degree", d] += 1
         found.agreed[call, "depth", k] += 1
@@ -74,10 +77,12 @@ def noted(found, call, given, number, d, k, place, agrees):
 
 def compared(found, made):
     """The calls that are given a sheet."""
-    expected, faults, _ = compare.second_answers(made)
+    expected, faults, walks = compare.second_answers(made)
     answers = compare.run(compare.PROGRAM, made)
     for (call, args), got, wanted in zip(made, answers, expected):
-        noted(found, call, compare.record(call, args), wanted[0], args[0], args[5], args[-1][1:2] if call in cases.WALKS else (), got == wanted)
+        walk = call in cases.WALKS
+        noted(found, call, compare.record(call, args), wanted[0], args[0], args[5], args[-1][1:2] if walk else (), got == wanted,
+              walks[compare.walk_of(args)] if walk and wanted[0] == 0 else ())
     found.faults.extend(compare.faults_of_walks(faults) + compare.disagreements(made, answers, expected))
 
 
@@ -128,12 +133,14 @@ def gathered(seed, parts, jobs):
 
 
 def wanted(call):
-    """What every call must show: each number that it can answer, each degree and each depth, and of its places each kind and each content."""
+    """What every call must show: each number that it can answer, each degree and each depth, of its places each kind and each content, and of the
+    largest bends each kind."""
     yield from (("number", number) for number in (0, *REFUSALS[call]))
     yield from (("degree", d) for d in range(9))
     yield from (("depth", k) for k in range(8))
     contents = {"raster": cases.CONTENTS, "listing": cases.CONTENTS, "answer": (*text_places.LENGTHS, *text_places.CONTENTS)}
     yield from (("place", thing) for thing in contents.get(call, ()))
+    yield from (("largest bend", kind) for kind in LARGEST_BENDS if call in cases.WALKS)
 
 
 def unwanted(agreed, count):

@@ -181,7 +181,7 @@ def walked(example, cleared_at_zero=False):
 
     found = second_walk.visited_cells(verdict, DEPTH)
     cells = {at: MARKS[seen] for at, seen in found.items() if seen != "open" or at[0] == DEPTH}
-    return second_walk.tally_of(found, DEPTH)[1], len(second_walk.cut_cells(found, DEPTH)), cells
+    return len(second_walk.coloured_cells(found, DEPTH)), len(second_walk.cut_cells(found, DEPTH)), cells
 
 
 # ---- the document

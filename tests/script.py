@@ -144,7 +144,7 @@ def command_checks():
         picture, k = out.decode().split("\n"), sheets.sheet(name).k
         drawn = [line[:2 * 2 ** k + 2] for line in picture[:2 ** k + 2]]
         labels = [line[2 * 2 ** k + 5:] for line in picture[:2 ** k + 2]]
-        _, visited, coloured, raster = second.raster(*sheets.sheet(name), [0] * 4 ** k)
+        _, visited, coloured, _, raster = second.raster(*sheets.sheet(name), [0] * 4 ** k)
         yield f"the picture of {name}", (status, err) == (0, "") and drawn == framed(raster, k)
         counts = {f"depth     {k}", f"visited   {visited} cells", f"coloured  {coloured} of {4 ** k:,} cells"}
         yield f"the tally of {name}", counts | {f"{name}.sheet"} <= set(labels)

@@ -4,7 +4,8 @@ Plain exact whole numbers, in the page's order and by the page's formulas, with 
 speed. It shares nothing with the proved crates, so that where the two agree neither leans on the other. (Who wrote its walks had seen the
 code of the crate `local`; the local form here is the page's sum all the same.)
 
-The bounds of a cell give the verdict on it, and tests/second_walk.py has what the page says of a walk by verdicts.
+The bounds of a cell give the verdict on it, and tests/second_walk.py has what the page says of a walk by verdicts. The tallies have the largest
+bend among coloured cells too, which request #101 adds to the page's.
 
 An answer begins with a number: 0 where the sheet is accepted, else the number of the refusal with zeros beside it. Where a place is lent,
 the answer ends with all of the place's entries as they are afterwards.
@@ -16,7 +17,7 @@ import sys
 from math import comb
 
 sys.dont_write_bytecode = True  # nothing is left in the tree
-from second_walk import fault_of, listing_of, raster_of, tally, tally_of, visited_cells
+from second_walk import fault_of, listing_of, raster_of, tally, tally_of, walk_by
 
 COORDINATE = 1_048_576
 LIMIT = 2 ** 62
@@ -91,19 +92,29 @@ def verdict_of(lower, upper):
     return "above" if lower > 0 else "below" if upper < 0 else "open"
 
 
+def range_of(d, coefficients, X, Y, s, k, mode, j, p, q):
+    """The verdict on a cell, its two bounds and its bend."""
+    G = local_form(d, coefficients, k, *cell(X, Y, s, k, j, p, q))
+    lower, upper = two_bounds(G, mode)
+    return verdict_of(lower, upper), lower, upper, bend_of(G)
+
+
 # ---- walking the sheet
+
+def seen(verdict, lower, upper, bend):
+    """What a walk asks of a cell: the verdict on it and its bend."""
+    return verdict, bend
+
 
 @functools.lru_cache(maxsize=8)
 def walked(d, coefficients, X, Y, s, k, mode):
-    """The visited cells of an accepted sheet: each cell's bounds are worked out once, for raster and listing both."""
-    def verdict(j, p, q):
-        return verdict_of(*two_bounds(local_form(d, coefficients, k, *cell(X, Y, s, k, j, p, q)), mode))
-    return visited_cells(verdict, k)
+    """The walk of an accepted sheet: each cell's bounds and bend are worked out once, for raster and listing both."""
+    return walk_by(lambda *at: seen(*range_of(d, coefficients, X, Y, s, k, mode, *at)), k)
 
 
 def walk_fault(d, coefficients, X, Y, s, k, mode):
     """What the page says of every walk and this one does not keep, or nothing."""
-    return fault_of(walked(d, tuple(coefficients), X, Y, s, k, mode), k)
+    return fault_of(walked(d, tuple(coefficients), X, Y, s, k, mode).found, k)
 
 
 # ---- weight
@@ -153,7 +164,7 @@ def refusal(d, coefficients, X, Y, s, k, mode=None, entries=None, at=None, point
         (6, lambda: weight_of(d, coefficients, X, Y, s, k) >= LIMIT),
         (7, lambda: entries is not None and entries < 4 ** k),
         (8, lambda: at is not None and cell_outside() or point is not None and point_outside()),
-        (9, lambda: entries is not None and len(walked(d, tuple(coefficients), X, Y, s, k, mode)) > 65_535),
+        (9, lambda: entries is not None and len(walked(d, tuple(coefficients), X, Y, s, k, mode).found) > 65_535),
     ]
     return next((number for number, holds in conditions if holds()), 0)
 
@@ -180,29 +191,27 @@ def bounds(d, coefficients, X, Y, s, k, mode, j, p, q):
     number = refusal(d, coefficients, X, Y, s, k, mode=mode, at=(j, p, q))
     if number:
         return number, 0, 0, 0, 0
-    G = local_form(d, coefficients, k, *cell(X, Y, s, k, j, p, q))
-    lower, upper = two_bounds(G, mode)
-    return 0, verdict_of(lower, upper), lower, upper, bend_of(G)
+    return 0, *range_of(d, coefficients, X, Y, s, k, mode, j, p, q)
 
 
 def raster(d, coefficients, X, Y, s, k, mode, place):
-    """(number, visited, coloured, the place afterwards)"""
-    number = refusal(d, coefficients, X, Y, s, k, mode=mode, entries=len(place))
-    if number:
-        return number, 0, 0, place
-    found = walked(d, tuple(coefficients), X, Y, s, k, mode)
-    colours = raster_of(found, k)
-    return 0, *tally_of(found, k), colours + place[len(colours):]
-
-
-def listing(d, coefficients, X, Y, s, k, mode, place):
-    """(number, length, visited, coloured, the place afterwards)"""
+    """(number, visited, coloured, largest bend, the place afterwards)"""
     number = refusal(d, coefficients, X, Y, s, k, mode=mode, entries=len(place))
     if number:
         return number, 0, 0, 0, place
-    found = walked(d, tuple(coefficients), X, Y, s, k, mode)
-    records = listing_of(found, k)
-    return 0, len(records), *tally_of(found, k), records + place[len(records):]
+    walk = walked(d, tuple(coefficients), X, Y, s, k, mode)
+    colours = raster_of(walk.found, k)
+    return 0, *tally_of(walk, k), colours + place[len(colours):]
+
+
+def listing(d, coefficients, X, Y, s, k, mode, place):
+    """(number, length, visited, coloured, largest bend, the place afterwards)"""
+    number = refusal(d, coefficients, X, Y, s, k, mode=mode, entries=len(place))
+    if number:
+        return number, 0, 0, 0, 0, place
+    walk = walked(d, tuple(coefficients), X, Y, s, k, mode)
+    records = listing_of(walk.found, k)
+    return 0, len(records), *tally_of(walk, k), records + place[len(records):]
 
 
 # ---- the page's own figures
@@ -229,6 +238,9 @@ P10_REFUSED = sheet(8, {(0, 0): 64}, 0, 0, 6)
 P11 = sheet(0, {(0, 0): 1}, 1_048_576, 0, 0)
 P11_REFUSED = sheet(0, {(0, 0): 1}, 1_048_577, 0, 0)
 P12 = sheet(8, {}, 0, 0, 7)
+# x^3 from -1 to 0, no sheet of the page: on level 0 the form is -8 + 24e - 24e^2 + 8e^3, of bend 32; all four cells of level 1 are coloured, on the
+# left -27 + 27e - 9e^2 + e^3, of bend 10, and on the right -1 + 3e - 3e^2 + e^3, of bend 4
+CUBE = sheet(3, {(3, 0): 1}, -1, 0, 1)
 
 # the records of four coloured cells at level 1, as the whole case prints them: (p, q) is (0, 0), (1, 0), (0, 1), (1, 1)
 QUARTERS = [65536 + 1, 65536 + 4 + 1, 65536 + 512 + 1, 65536 + 512 + 4 + 1]
@@ -238,19 +250,20 @@ DIAGONAL = [1, 1, 2, 2,
             3, 1, 1, 1,
             3, 3, 1, 1]
 
-# a call, what it is given, and the part of its answer that the page prints or that follows from it at once (None: neither)
+# a call, what it is given, and the part of its answer that the page prints or that follows from it at once (None: neither). The bends are worked out
+# by hand: P1's form is 16 + 128e^2 at level 0, and 48 - 64e + 32e^2 or 48 + 64e + 32e^2 at level 1; P8's is 4eg and P9's 1 + 2e + e^2
 FIGURES = [
     ("P1", check, P1, (0, 144, 54)),
-    ("P1", bounds, P1 + (0, 0, 0, 0), (0, "above", 16, 144, None)),
-    ("P2", bounds, P1 + (0, 1, 1, 0), (0, "open", -16, 144, None)),
-    ("P3", bounds, P1 + (1, 0, 0, 0), (0, "open", -112, 144, None)),
-    ("P3", bounds, P1 + (1, 1, 1, 0), (0, "open", -48, 144, None)),
-    *(("P4", bounds, P4 + (mode, 1, p, q), (0, "open", lower, upper, None))
+    ("P1", bounds, P1 + (0, 0, 0, 0), (0, "above", 16, 144, 128)),
+    ("P2", bounds, P1 + (0, 1, 1, 0), (0, "open", -16, 144, 32)),
+    ("P3", bounds, P1 + (1, 0, 0, 0), (0, "open", -112, 144, 128)),
+    ("P3", bounds, P1 + (1, 1, 1, 0), (0, "open", -48, 144, 32)),
+    *(("P4", bounds, P4 + (mode, 1, p, q), (0, "open", lower, upper, 0))
       for mode in (0, 1) for p, q, lower, upper in ((0, 0, -2, 2), (1, 0, 0, 4), (0, 1, -4, 0))),
     ("P6", check, P6, (0, 0, 62)),
-    *(("P6", bounds, P6 + (mode, 0, 0, 0), (0, "open", 0, 0, None)) for mode in (0, 1)),
-    *(("P7", bounds, P7 + (mode, 0, 0, 0), (0, "below", -5, -5, None)) for mode in (0, 1)),
-    *(("P8", bounds, P8 + (mode, 0, 0, 0), (0, "open", -4, 4, None)) for mode in (0, 1)),
+    *(("P6", bounds, P6 + (mode, 0, 0, 0), (0, "open", 0, 0, 0)) for mode in (0, 1)),
+    *(("P7", bounds, P7 + (mode, 0, 0, 0), (0, "below", -5, -5, 0)) for mode in (0, 1)),
+    *(("P8", bounds, P8 + (mode, 0, 0, 0), (0, "open", -4, 4, 4)) for mode in (0, 1)),
     ("P9", bounds, P9 + (0, 0, 0, 0), (0, "open", -1, 4, 1)),
     ("P9", bounds, P9 + (1, 0, 0, 0), (0, "open", -2, 4, 1)),
     *(("P9", value, P9 + (U, V), (0, U * 2)) for U in (0, 2) for V in (0, 2)),
@@ -259,40 +272,49 @@ FIGURES = [
     ("P11", check, P11, (0, None, None)),
     ("P11", check, P11_REFUSED, (4, 0, 0)),
     ("P12", check, P12, (0, 0, 62)),
-    ("P1", raster, P1 + (0, [9] * 4), (0, 1, 0, [2] * 4)),
-    ("P1", listing, P1 + (0, [9] * 4), (0, 1, 1, 0, [2] + [9] * 3)),
-    ("P3", raster, P1 + (1, [9] * 4), (0, 5, 4, [1] * 4)),
-    ("P3", listing, P1 + (1, [9] * 4), (0, 4, 5, 4, QUARTERS)),
-    *(("P4", raster, P4 + (mode, [9] * 4), (0, 5, 4, [1] * 4)) for mode in (0, 1)),
-    *(("P4", listing, P4 + (mode, [9] * 4), (0, 4, 5, 4, QUARTERS)) for mode in (0, 1)),
-    ("whole case", listing, P4 + (0, [9] * 6), (0, 4, 5, 4, QUARTERS + [9] * 2)),
-    *(("P5", raster, P5 + (mode, [9] * 16), (0, 21, 10, DIAGONAL)) for mode in (0, 1)),
-    *(("P5", listing, P5 + (mode, [9] * 16), (0, 16, 21, 10, None)) for mode in (0, 1)),
-    *(("P6", raster, P6 + (mode, [9]), (0, 1, 1, [1])) for mode in (0, 1)),
-    *(("P7", raster, P7 + (mode, [9] * 16384), (0, 1, 0, [3] * 16384)) for mode in (0, 1)),
-    *(("P7", listing, P7 + (mode, [9] * 16384), (0, 1, 1, 0, [3] + [9] * 16383)) for mode in (0, 1)),
-    ("P13", raster, P4 + (0, [9] * 3), (7, 0, 0, [9] * 3)),
-    ("P13", listing, P4 + (0, [9] * 3), (7, 0, 0, 0, [9] * 3)),
-    ("P13", raster, P4 + (0, [9] * 5), (0, 5, 4, [1] * 4 + [9])),
-    ("P13", listing, P4 + (0, [9] * 5), (0, 4, 5, 4, QUARTERS + [9])),
+    ("P1", raster, P1 + (0, [9] * 4), (0, 1, 0, 0, [2] * 4)),
+    ("P1", listing, P1 + (0, [9] * 4), (0, 1, 1, 0, 0, [2] + [9] * 3)),
+    ("P3", raster, P1 + (1, [9] * 4), (0, 5, 4, 32, [1] * 4)),
+    ("P3", listing, P1 + (1, [9] * 4), (0, 4, 5, 4, 32, QUARTERS)),
+    *(("P4", raster, P4 + (mode, [9] * 4), (0, 5, 4, 0, [1] * 4)) for mode in (0, 1)),
+    *(("P4", listing, P4 + (mode, [9] * 4), (0, 4, 5, 4, 0, QUARTERS)) for mode in (0, 1)),
+    ("whole case", listing, P4 + (0, [9] * 6), (0, 4, 5, 4, 0, QUARTERS + [9] * 2)),
+    *(("P5", raster, P5 + (mode, [9] * 16), (0, 21, 10, 0, DIAGONAL)) for mode in (0, 1)),
+    *(("P5", listing, P5 + (mode, [9] * 16), (0, 16, 21, 10, 0, None)) for mode in (0, 1)),
+    *(("P6", raster, P6 + (mode, [9]), (0, 1, 1, 0, [1])) for mode in (0, 1)),
+    *(("P7", raster, P7 + (mode, [9] * 16384), (0, 1, 0, 0, [3] * 16384)) for mode in (0, 1)),
+    *(("P7", listing, P7 + (mode, [9] * 16384), (0, 1, 1, 0, 0, [3] + [9] * 16383)) for mode in (0, 1)),
+    *(("P8", raster, P8 + (mode, [9]), (0, 1, 1, 4, [1])) for mode in (0, 1)),
+    *(("P8", listing, P8 + (mode, [9]), (0, 1, 1, 1, 4, [1])) for mode in (0, 1)),
+    *(("P9", raster, P9 + (mode, [9]), (0, 1, 1, 1, [1])) for mode in (0, 1)),
+    *(("P9", listing, P9 + (mode, [9]), (0, 1, 1, 1, 1, [1])) for mode in (0, 1)),
+    *(("x^3", raster, CUBE + (mode, [9] * 4), (0, 5, 4, 10, [1] * 4)) for mode in (0, 1)),
+    *(("x^3", listing, CUBE + (mode, [9] * 4), (0, 4, 5, 4, 10, QUARTERS)) for mode in (0, 1)),
+    ("P13", raster, P4 + (0, [9] * 3), (7, 0, 0, 0, [9] * 3)),
+    ("P13", listing, P4 + (0, [9] * 3), (7, 0, 0, 0, 0, [9] * 3)),
+    ("P13", raster, P4 + (0, [9] * 5), (0, 5, 4, 0, [1] * 4 + [9])),
+    ("P13", listing, P4 + (0, [9] * 5), (0, 4, 5, 4, 0, QUARTERS + [9])),
     *(("P12", check, sheet(8, {e: sign}, 0, 0, 7), (6, 0, 0)) for e in exponents(8) for sign in (1, -1)),
 ]
 
-# a sheet, a mode, and what a walk by the verdicts counts: visited and coloured
+# a sheet, a mode, and the tally of a walk by the verdicts and bends: visited, coloured, and the largest bend, which the page does not print
 TALLIES = [
-    ("P1", P1, 0, (1, 0)),
-    ("P3", P1, 1, (5, 4)),
-    *(("P4", P4, mode, (5, 4)) for mode in (0, 1)),
-    *(("P5", P5, mode, (21, 10)) for mode in (0, 1)),
-    *(("P6", P6, mode, (1, 1)) for mode in (0, 1)),
-    *(("P7", P7, mode, (1, 0)) for mode in (0, 1)),
+    ("P1", P1, 0, (1, 0, 0)),
+    ("P3", P1, 1, (5, 4, 32)),
+    *(("P4", P4, mode, (5, 4, 0)) for mode in (0, 1)),
+    *(("P5", P5, mode, (21, 10, 0)) for mode in (0, 1)),
+    *(("P6", P6, mode, (1, 1, 0)) for mode in (0, 1)),
+    *(("P7", P7, mode, (1, 0, 0)) for mode in (0, 1)),
+    *(("P8", P8, mode, (1, 1, 4)) for mode in (0, 1)),
+    *(("P9", P9, mode, (1, 1, 1)) for mode in (0, 1)),
+    *(("x^3", CUBE, mode, (5, 4, 10)) for mode in (0, 1)),
 ]
 
 
 def main():
     wrong = 0
     for name, given, mode, counted in TALLIES:
-        answer = tally(lambda j, p, q: bounds(*given, mode, j, p, q)[1], given[-1])
+        answer = tally(lambda *at: seen(*bounds(*given, mode, *at)[1:]), given[-1])
         if answer != counted:
             print(f"{name}: a walk in mode {mode} counts {answer}, and the page says {counted}")
             wrong += 1

@@ -108,7 +108,7 @@ def listing_text(text):
     if number:
         return line_of(b"refused", number, line)
     used = list(coefficients[:len(second.exponents(d))])
-    _, length, visited, coloured, place = second.listing(d, used, X, Y, s, k, mode, [0] * 4 ** k)
+    _, length, visited, coloured, _, place = second.listing(d, used, X, Y, s, k, mode, [0] * 4 ** k)
     records = [line_of(*cell_of(record), MARKS[colour_of(record)]) for record in place[:length]]
     return b"".join(records) + line_of(b"total", visited, coloured)
 

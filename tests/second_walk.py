@@ -1,15 +1,19 @@
 """The second program where it walks: the page's section on the walk, for any verdicts on the cells.
 
 The verdict on a cell is a function of its level, column and row, and nothing here asks where it comes from: tests/second.py takes it from the
-bounds of a polynomial.
+bounds of a polynomial. So it is with the bend of a cell, which only the largest bend of a tally asks for.
 
 The visited cells come from the page's definition at every depth: the cells of all levels are listed in walking order, and those all of whose larger
 enclosing cells are open are the visited ones. The quick way, to cut open cells and go on with their parts, is `stepped`. No answer comes from it:
 `fault_of` compares the two.
 """
+import collections
 import functools
 
 COLOURS = {"open": 1, "above": 2, "below": 3}
+
+# the visited cells with their verdicts, in walking order, and the bend of each
+Walk = collections.namedtuple("Walk", "found bends")
 
 
 def parts(j, p, q):
@@ -47,6 +51,13 @@ def visited_cells(verdict, k):
     return {at: verdict(*at) for at in every_cell(k) if all(verdict(*larger) == "open" for larger in enclosing(*at))}
 
 
+def walk_by(seen, k):
+    """The walk by what is seen of a cell: its verdict and its bend. It is asked at most once of each cell."""
+    seen = functools.cache(seen)
+    found = visited_cells(lambda *at: seen(*at)[0], k)
+    return Walk(found, {at: seen(*at)[1] for at in found})
+
+
 def stepped(found, k, at=(0, 0, 0)):
     """The quick way: the cells that one comes to by cutting open cells above the finest level, in that order, by the verdicts found."""
     yield at
@@ -60,9 +71,24 @@ def cut_cells(found, k):
     return [at for at, verdict in found.items() if verdict == "open" and at[0] < k]
 
 
-def tally_of(found, k):
-    """Visited and coloured."""
-    return len(found), sum(verdict == "open" for at, verdict in found.items() if at[0] == k)
+def coloured_cells(found, k):
+    """The visited cells that are coloured: the open ones at the finest level."""
+    return [at for at, verdict in found.items() if verdict == "open" and at[0] == k]
+
+
+def cleared_cells(found):
+    """The visited cells that are cleared: those above and those below."""
+    return [at for at, verdict in found.items() if verdict != "open"]
+
+
+def largest_bend(walk, k):
+    """The definition: the largest among the bends of all coloured cells, and 0 where none is coloured."""
+    return max((walk.bends[at] for at in coloured_cells(walk.found, k)), default=0)
+
+
+def tally_of(walk, k):
+    """Visited, coloured, and the largest bend."""
+    return len(walk.found), len(coloured_cells(walk.found, k)), largest_bend(walk, k)
 
 
 def raster_of(found, k):
@@ -114,8 +140,8 @@ def unfolded(records, k):
     return told
 
 
-def tally(verdict, k):
-    return tally_of(visited_cells(verdict, k), k)
+def tally(seen, k):
+    return tally_of(walk_by(seen, k), k)
 
 
 def fault_of(found, k):

@@ -26,12 +26,6 @@ module _ (v : Verdicts) (k : ℕ) where
   abbrev bend-at : ℕ → ℕ → ℕ
   bend-at p q = cond (eqb (colour v k p q) 1) (carried-bend (v k p q)) 0
 
-  each-at-most : (p q : ℕ) → p < 2 ^ k → q < 2 ^ k → bend-at p q ≤ largest-bend v k
-  unfolding largest-bend
-  each-at-most p q h i = Nat.le-trans
-      (largest-member (λ p. bend-at p q) (member-span 0 (2 ^ k) p (omega arith) h))
-      (largest-member (λ q. largest (span 0 (2 ^ k)) (λ p. bend-at p q)) (member-span 0 (2 ^ k) q (omega arith) i))
-
   -- it is at most what the bend of each coloured finest cell is at most
   pub bend-least : (m : ℕ) → ((p q : ℕ) → p < 2 ^ k → q < 2 ^ k → colour v k p q ≡ 1 → carried-bend (v k p q) ≤ m) → largest-bend v k ≤ m
   unfolding largest-bend
@@ -41,6 +35,13 @@ module _ (v : Verdicts) (k : ℕ) where
         | yes e ↦ rw e (h p q (a .1) (b .1) e)
         | no n ↦ rw (ne-eqb (colour v k p q) 1 n) (omega arith)
       ]))
+
+  -- and at least each of them
+  each-at-most : (p q : ℕ) → p < 2 ^ k → q < 2 ^ k → bend-at p q ≤ largest-bend v k
+  unfolding largest-bend
+  each-at-most p q h i = Nat.le-trans
+      (largest-member (λ p. bend-at p q) (member-span 0 (2 ^ k) p (omega arith) h))
+      (largest-member (λ q. largest (span 0 (2 ^ k)) (λ p. bend-at p q)) (member-span 0 (2 ^ k) q (omega arith) i))
 
 -- a number that is picked and is not 0 was picked by the test
 picked : (b : Bool) (n m : ℕ) → cond b n 0 ≡ m → 0 < m → (b ≡ true) × (n ≡ m)

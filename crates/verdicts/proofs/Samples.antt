@@ -34,7 +34,7 @@ tallies = (refl, refl, refl, refl, refl, refl, refl, refl)
 
 -- of the coloured cells alone: where none is coloured it is 0
 bends : (largest-bend diagonal 2 ≡ 4) × (largest-bend diagonal 1 ≡ 13) × (largest-bend diagonal 0 ≡ 20) × (largest-bend whole 1 ≡ 0)
-unfolding largest run span _⋯_ colour largest-bend
+unfolding sumℕ largest run span _⋯_ colour largest-bend
 bends = (refl, refl, refl, refl)
 
 -- ---- the listing
