@@ -13,7 +13,7 @@ import sys
 ROOT = pathlib.Path(__file__).resolve().parent.parent
 ERROR = re.compile(r"^(?P<file>\S+):\d+:\d+: error: (?:in )?`(?P<name>[^`]+)`: ")
 NAMELESS = re.compile(r"^\S+:\d+:\d+: error: ")
-UNFIT = ("that can be named from here", "is not in scope", "it has no file", "no occurrence of")
+UNFIT = ("that can be named from here", "is not in scope", "it has no file", "no occurrence of", "no equation of the list has an instance")
 FOLLOWS = "was not admitted"
 
 

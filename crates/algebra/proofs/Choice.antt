@@ -18,6 +18,11 @@ pub cond-when : {X : Type 0} (c : Bool) {x y : X} (z : X) → (c ≡ true → x 
 cond-when true z h = h refl
 cond-when false z h = refl
 
+-- what is not the second was taken by the test
+pub cond-first : {X : Type 0} (c : Bool) {x y z : X} → cond c x y ≡ z → (y ≡ z → ⊥) → (c ≡ true) × (x ≡ z)
+cond-first true e n = (refl, e)
+cond-first false e n = absurd (n e)
+
 -- a choice by two tests
 pub cond-both : {X : Type 0} (a b : Bool) (x y : X) → cond a (cond b x y) y ≡ cond (a && b) x y
 cond-both true b x y = refl

@@ -7,7 +7,7 @@ use lib.Signed.{_≤ℤ_}
 use Rattle.algebra.specs.Sum.{sum, sumℕ, run, span, _⋯_}
 use Rattle.algebra.specs.Binomial.{choose, entry}
 use Rattle.algebra.specs.Horner.{shifted, load}
-use Rattle.algebra.specs.MinMax.{maxℤ, minℤ}
+use Rattle.algebra.specs.MinMax.{maxℤ, minℤ, largest}
 use Rattle.algebra.specs.Triangle.{row-start, place}
 use Rattle.algebra.specs.Digits.{digits}
 use Rattle.algebra.proofs.Integer.{≡-by}
@@ -42,6 +42,10 @@ loads = refl
 pub extremes : (maxℤ (pos 2) (negsuc 4) ≡ pos 2) × (maxℤ (negsuc 4) (pos 2) ≡ pos 2) × (minℤ (pos 2) (negsuc 4) ≡ negsuc 4) × (minℤ (negsuc 4) (pos 2) ≡ negsuc 4)
 unfolding maxℤ minℤ
 extremes = (refl, refl, refl, refl)
+
+pub largest-ones : (largest (3 ∷ 0 ∷ 5 ∷ 2 ∷ 0 ∷ []) (λ n. n) ≡ 5) × (largest (4 ∷ 1 ∷ []) (λ n. n + 2) ≡ 6) × (largest [] (λ (n : ℕ). n) ≡ 0)
+unfolding largest
+largest-ones = (refl, refl, refl)
 
 -- with d 2 the rows start at 0, 3 and 5 and end at 6, (0,2) stands at 2 and (1,1) at 4; with d 8 there are 45 places
 pub places : (map (row-start 2) (0 ⋯ 3) ≡ 0 ∷ 3 ∷ 5 ∷ 6 ∷ []) × (place 2 0 2 ≡ 2) × (place 2 1 1 ≡ 4) × (row-start 8 9 ≡ 45)

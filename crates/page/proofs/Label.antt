@@ -1,5 +1,5 @@
 -- The bend on the label: what the largest bend among coloured finest cells says of a sheet.
-use mathlib.Core.Path.{_≡_, sym, _∙_, subst}
+use mathlib.Core.Path.{_≡_, refl, subst}
 use mathlib.Core.List.{[], _∷_}
 use Prim.Native.Nat.{ℕ, _*_, _^_, _≤_, _<_}
 use native.Mathlib.Nat as Nat
@@ -9,10 +9,10 @@ use lib.Signed.{_≤ℤ_, _<ℤ_}
 use Rattle.algebra.proofs.Order.{≤ℤ-by, ≤ℤ-trans, <ℤ-step, pos-mono, pos-cancel}
 use Rattle.algebra.proofs.Ring.{ring, _⊕_, _⊖_, ⊝_, #_, _≐_}
 use Rattle.forms.specs.Bounds.{Mode}
-use Rattle.verdicts.specs.Judging.{carried-bend}
 use Rattle.verdicts.specs.Walking.{colour, largest-bend}
+use Rattle.verdicts.specs.Facts.{IsLargest}
 use Rattle.verdicts.proofs.Judging.{judged-bend}
-use Rattle.verdicts.proofs.Bends.{bend-at-most, bend-reached, none-no-bend}
+use Rattle.verdicts.proofs.Bends.{bend-largest, largest-by}
 use Rattle.page.specs.Sheet.{Sheet}
 use Rattle.page.specs.Scaled.{F, half-side, U0, V0}
 use Rattle.page.specs.Bounds.{lower, upper, bend, verdict}
@@ -22,70 +22,51 @@ use Rattle.page.proofs.Demand3.{no-overshoot, open-around}
 use Rattle.page.proofs.Raster.{coloured-open, coloured-meets}
 
 -- ---- corner values and bounds
-module _ (S : Sheet) (mode : Mode) (j p q : ℕ) where
+module _ (S : Sheet) (j p q : ℕ) where
   at-each : (P Q : ℤ → Type 0) → ((z : ℤ) → P z → Q z) → AtCorners (U0 S j p) (V0 S j q) (half-side S j) (λ u v. P (F S u v)) → AtCorners (U0 S j p) (V0 S j q) (half-side S j) (λ u v. Q (F S u v))
   at-each P Q f (a, b, c, d) = (f _ a, f _ b, f _ c, f _ d)
 
-  -- what is near is near by more, too
-  nearer : {n m : ℕ} → n ≤ m → NearCorners S mode j p q n → NearCorners S mode j p q m
-  nearer {n} {m} l h = (
-    λ x c. ≤ℤ-trans (≤ℤ-by (pos-mono l) (ring (x ∷ pos n ∷ pos m ∷ []) (λ x n m. x ⊖ n ⊖ (x ⊖ m) ≐ m ⊖ n) tt)) (h .0 x c),
-    λ x c. ≤ℤ-trans (h .1 x c) (≤ℤ-by (pos-mono l) (ring (x ∷ pos n ∷ pos m ∷ []) (λ x n m. x ⊕ m ⊖ (x ⊕ n) ≐ m ⊖ n) tt)),
-  )
+  module _ (low high : ℤ) where
+    -- what is near is near by more, too
+    nearer : {n m : ℕ} → n ≤ m → NearCorners S j p q low high n → NearCorners S j p q low high m
+    nearer {n} {m} l h = (
+      λ x c. ≤ℤ-trans (≤ℤ-by (pos-mono l) (ring (x ∷ pos n ∷ pos m ∷ []) (λ x n m. x ⊖ n ⊖ (x ⊖ m) ≐ m ⊖ n) tt)) (h .0 x c),
+      λ x c. ≤ℤ-trans (h .1 x c) (≤ℤ-by (pos-mono l) (ring (x ∷ pos n ∷ pos m ∷ []) (λ x n m. x ⊕ m ⊖ (x ⊕ n) ≐ m ⊖ n) tt)),
+    )
 
-  -- where the bounds hold 0 between them and are near, the corner values do not all lie far from 0 on one side
-  not-beyond : {n : ℕ} → NearCorners S mode j p q n → (lower S mode j p q ≤ℤ pos 0) × (pos 0 ≤ℤ upper S mode j p q)
-      → (AtCorners (U0 S j p) (V0 S j q) (half-side S j) (λ u v. pos n <ℤ F S u v) → ⊥) × (AtCorners (U0 S j p) (V0 S j q) (half-side S j) (λ u v. F S u v <ℤ negℤ (pos n)) → ⊥)
-  not-beyond {n} h o = (
-    λ c.
-        let l = h .0 (pos n +ℤ pos 1) (at-each (λ z. pos n <ℤ z) (λ z. (pos n +ℤ pos 1) ≤ℤ z) (λ z s. <ℤ-step .0 s) c) in
-        let z : pos 1 ≤ℤ pos 0 = ≤ℤ-by (≤ℤ-trans l (o .0)) (ring (pos n ∷ []) (λ n. # 0 ⊖ # 1 ≐ # 0 ⊖ (n ⊕ # 1 ⊖ n)) tt) in omega (arith, pos-cancel z),
-    λ c.
-        let l = h .1 (negℤ (pos n) -ℤ pos 1) (at-each (λ z. z <ℤ negℤ (pos n)) (λ z. z ≤ℤ (negℤ (pos n) -ℤ pos 1)) (λ z s. ≤ℤ-by (<ℤ-step .0 s) (ring (z ∷ pos n ∷ []) (λ f n. ⊝ n ⊖ # 1 ⊖ f ≐ ⊝ n ⊖ (f ⊕ # 1)) tt)) c) in
-        let z : pos 1 ≤ℤ pos 0 = ≤ℤ-by (≤ℤ-trans (o .1) l) (ring (pos n ∷ []) (λ n. # 0 ⊖ # 1 ≐ ⊝ n ⊖ # 1 ⊕ n ⊖ # 0) tt) in omega (arith, pos-cancel z),
-  )
+    -- where the bounds hold 0 between them and are near, the corner values do not all lie far from 0 on one side
+    not-beyond : (n : ℕ) → NearCorners S j p q low high n → (low ≤ℤ pos 0) × (pos 0 ≤ℤ high)
+        → (AtCorners (U0 S j p) (V0 S j q) (half-side S j) (λ u v. pos n <ℤ F S u v) → ⊥) × (AtCorners (U0 S j p) (V0 S j q) (half-side S j) (λ u v. F S u v <ℤ negℤ (pos n)) → ⊥)
+    not-beyond n h o = (
+      λ c.
+          let l = h .0 (pos n +ℤ pos 1) (at-each (λ z. pos n <ℤ z) (λ z. (pos n +ℤ pos 1) ≤ℤ z) (λ z s. <ℤ-step .0 s) c) in
+          let z : pos 1 ≤ℤ pos 0 = ≤ℤ-by (≤ℤ-trans l (o .0)) (ring (pos n ∷ []) (λ n. # 0 ⊖ # 1 ≐ # 0 ⊖ (n ⊕ # 1 ⊖ n)) tt) in omega (arith, pos-cancel z),
+      λ c.
+          let l = h .1 (negℤ (pos n) -ℤ pos 1) (at-each (λ z. z <ℤ negℤ (pos n)) (λ z. z ≤ℤ (negℤ (pos n) -ℤ pos 1)) (λ z s. ≤ℤ-by (<ℤ-step .0 s) (ring (z ∷ pos n ∷ []) (λ f n. ⊝ n ⊖ # 1 ⊖ f ≐ ⊝ n ⊖ (f ⊕ # 1)) tt)) c) in
+          let z : pos 1 ≤ℤ pos 0 = ≤ℤ-by (≤ℤ-trans (o .1) l) (ring (pos n ∷ []) (λ n. # 0 ⊖ # 1 ≐ ⊝ n ⊖ # 1 ⊕ n ⊖ # 0) tt) in omega (arith, pos-cancel z),
+    )
 
 -- ---- the label
 pub sheet-labelled : SheetLabelled
 sheet-labelled S mode = record {
-  at-most = at-most;
-  reached = λ p q a b c. let r = bend-reached (verdict S mode) (S .k) p q a b c in record {
-    column = r .column;
-    row = r .row;
-    across = r .across;
-    along = r .along;
-    painted = r .painted;
-    has = sym (carried (r .column) (r .row)) ∙ r .most;
-  };
-  none = none-no-bend (verdict S mode) (S .k);
-  straight = λ z p q a b c. coloured-meets S mode p q c (omega (arith, at-most p q a b c));
+  largest = largest;
+  straight = λ z p q a b c. coloured-meets S mode p q c (let l = largest .at-most p q a b c in omega arith);
   near = near;
-  not-far = λ p q a b c. not-beyond S mode (S .k) p q (near p q a b c) (open-around S mode (S .k) p q (coloured-open S mode p q c .2));
+  not-far = λ p q a b c. not-beyond S (S .k) p q (lower S mode (S .k) p q) (upper S mode (S .k) p q) _ (near p q a b c) (open-around S mode (S .k) p q (coloured-open S mode p q c .2));
 }
   where
-    carried : (p q : ℕ) → carried-bend (verdict S mode (S .k) p q) ≡ bend S (S .k) p q
-    carried p q = judged-bend (lower S mode (S .k) p q) (upper S mode (S .k) p q) (bend S (S .k) p q)
+    largest : IsLargest (S .k) (λ p q. colour (verdict S mode) (S .k) p q ≡ 1) (bend S (S .k)) (largest-bend (verdict S mode) (S .k))
+    largest = largest-by (λ p q a b c. c) (λ p q a b c. c) (λ p q. judged-bend (lower S mode (S .k) p q) (upper S mode (S .k) p q) (bend S (S .k) p q)) refl (bend-largest (verdict S mode) (S .k))
 
-    at-most : (p q : ℕ) → p < 2 ^ S .k → q < 2 ^ S .k → colour (verdict S mode) (S .k) p q ≡ 1 → bend S (S .k) p q ≤ largest-bend (verdict S mode) (S .k)
-    at-most p q a b c = subst (λ n. n ≤ largest-bend (verdict S mode) (S .k)) (carried p q) (bend-at-most (verdict S mode) (S .k) p q a b c)
-
-    near : (p q : ℕ) → p < 2 ^ S .k → q < 2 ^ S .k → colour (verdict S mode) (S .k) p q ≡ 1 → NearCorners S mode (S .k) p q (2 * largest-bend (verdict S mode) (S .k))
-    near p q a b c = nearer S mode (S .k) p q (Nat.mul-le-mul-left 2 (at-most p q a b c)) (no-overshoot S mode (S .k) p q)
+    near : (p q : ℕ) → p < 2 ^ S .k → q < 2 ^ S .k → colour (verdict S mode) (S .k) p q ≡ 1
+        → NearCorners S (S .k) p q (lower S mode (S .k) p q) (upper S mode (S .k) p q) (2 * largest-bend (verdict S mode) (S .k))
+    near p q a b c = nearer S (S .k) p q (lower S mode (S .k) p q) (upper S mode (S .k) p q) (Nat.mul-le-mul-left 2 (largest .at-most p q a b c)) (no-overshoot S mode (S .k) p q)
 
 -- ---- the same by another property that says which cells are coloured
 pub labelled-by : {S : Sheet} {mode : Mode} {P Q : ℕ → ℕ → Type 0} {b c : ℕ}
     → ((p q : ℕ) → p < 2 ^ S .k → q < 2 ^ S .k → P p q → Q p q) → ((p q : ℕ) → p < 2 ^ S .k → q < 2 ^ S .k → Q p q → P p q) → b ≡ c → Labelled S mode P b → Labelled S mode Q c
 labelled-by {S} {mode} {P} {Q} there back e l = subst (Labelled S mode Q) e (record {
-  at-most = λ p q x y z. l .at-most p q x y (back p q x y z);
-  reached = λ p q x y z. let r = l .reached p q x y (back p q x y z) in record {
-    column = r .column;
-    row = r .row;
-    across = r .across;
-    along = r .along;
-    painted = there (r .column) (r .row) (r .across) (r .along) (r .painted);
-    has = r .has;
-  };
-  none = λ n. l .none (λ p q x y z. n p q x y (there p q x y z));
+  largest = largest-by there back (λ p q. refl) refl (l .largest);
   straight = λ o p q x y z. l .straight o p q x y (back p q x y z);
   near = λ p q x y z. l .near p q x y (back p q x y z);
   not-far = λ p q x y z. l .not-far p q x y (back p q x y z);

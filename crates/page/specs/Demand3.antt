@@ -17,15 +17,15 @@ abbrev pub Contained : Type 0
 Contained = (S : Sheet) (mode : Mode) (j p q : ℕ) (M N : ℤ) (Q : ℕ) → InCell S j p q M N Q →
     ((pos (Q ^ S .d) *ℤ lower S mode j p q) ≤ℤ value-at S M N Q) × (value-at S M N Q ≤ℤ (pos (Q ^ S .d) *ℤ upper S mode j p q))
 
--- neither bound lies further beyond the extreme corner value on its side than n: m - n ≤ lower for every m that is at most the four corner values, and likewise above
-abbrev pub NearCorners : Sheet → Mode → ℕ → ℕ → ℕ → ℕ → Type 0
-NearCorners S mode j p q n =
-    ((m : ℤ) → AtCorners (U0 S j p) (V0 S j q) (half-side S j) (λ u v. m ≤ℤ F S u v) → (m -ℤ pos n) ≤ℤ lower S mode j p q)
-    × ((m : ℤ) → AtCorners (U0 S j p) (V0 S j q) (half-side S j) (λ u v. F S u v ≤ℤ m) → upper S mode j p q ≤ℤ (m +ℤ pos n))
+-- neither of two bounds of a cell lies further beyond the extreme corner value on its side than n: m - n ≤ lower for every m that is at most the four corner values, and likewise above
+abbrev pub NearCorners : Sheet → ℕ → ℕ → ℕ → ℤ → ℤ → ℕ → Type 0
+NearCorners S j p q lower upper n =
+    ((m : ℤ) → AtCorners (U0 S j p) (V0 S j q) (half-side S j) (λ u v. m ≤ℤ F S u v) → (m -ℤ pos n) ≤ℤ lower)
+    × ((m : ℤ) → AtCorners (U0 S j p) (V0 S j q) (half-side S j) (λ u v. F S u v ≤ℤ m) → upper ≤ℤ (m +ℤ pos n))
 
 -- no bound overshoots the extreme corner value on its side by more than twice the bend
 abbrev pub NoOvershoot : Type 0
-NoOvershoot = (S : Sheet) (mode : Mode) (j p q : ℕ) → NearCorners S mode j p q (2 * bend S j p q)
+NoOvershoot = (S : Sheet) (mode : Mode) (j p q : ℕ) → NearCorners S j p q (lower S mode j p q) (upper S mode j p q) (2 * bend S j p q)
 
 -- a cleared cell has one strict sign throughout
 abbrev pub OneSign : Type 0

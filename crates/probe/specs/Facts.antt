@@ -1,13 +1,13 @@
 -- What the promises of `check`, `value` and `bounds` say of an answer, for every outcome that satisfies them. That they hold is proofs/Facts.
 use mathlib.Core.Path.{_≡_}
 use Prim.Native.Nat.{ℕ, _*_, _^_, _≤_}
-use lib.IntN.{ℤ, pos, _+ℤ_, _-ℤ_, _*ℤ_}
+use lib.IntN.{ℤ, pos, _*ℤ_}
 use lib.Signed.{_≤ℤ_, _<ℤ_}
 use Rattle.verdicts.specs.declared.Verdict.the-variants.{Above, Below, Open}
 use Rattle.page.specs.Sheet.{Sheet}
-use Rattle.page.specs.Scaled.{F, half-side, U0, V0, InCell, value-at, MeetsCurve}
+use Rattle.page.specs.Scaled.{half-side, U0, V0, InCell, value-at, MeetsCurve}
 use Rattle.page.specs.Refusals.{refusal, to-check, at-point, in-cell}
-use Rattle.page.specs.Demand3.{AtCorners}
+use Rattle.page.specs.Demand3.{AtCorners, NearCorners}
 use Rattle.probe.specs.declared.Checked.{Checked}
 use Rattle.probe.specs.declared.Valued.{Valued}
 use Rattle.probe.specs.declared.Bounded.{Bounded}
@@ -45,8 +45,7 @@ AnsweredContains = (S : Sheet) (mode j p q : ℕ) (r : Bounded) → BoundsPromis
 -- neither bound that it states overshoots the extreme corner value on its side by more than twice the bend that it states
 abbrev pub AnsweredNear : Type 0
 AnsweredNear = (S : Sheet) (mode j p q : ℕ) (r : Bounded) → BoundsPromise S mode j p q r → refusal (in-cell S mode j p q) ≡ 0 →
-    ((m : ℤ) → AtCorners (U0 S j p) (V0 S j q) (half-side S j) (λ u v. m ≤ℤ F S u v) → (m -ℤ pos (2 * states-bounds r .bend)) ≤ℤ states-bounds r .lower)
-    × ((m : ℤ) → AtCorners (U0 S j p) (V0 S j q) (half-side S j) (λ u v. F S u v ≤ℤ m) → states-bounds r .upper ≤ℤ (m +ℤ pos (2 * states-bounds r .bend)))
+    NearCorners S j p q (states-bounds r .lower) (states-bounds r .upper) (2 * states-bounds r .bend)
 
 -- where the verdict that it carries is above every value in the cell is positive, and where it is below negative
 abbrev pub AnsweredSigned : Type 0

@@ -7,14 +7,13 @@ use Prim.Native.Nat.{ℕ, zero, suc, _+_, _-_, _/_, _^_, _≤_, _<_}
 use native.Mathlib.Nat as Nat
 use native.Mathlib.Omega.{arith}
 use lib.Dec.{eqb}
-use lib.Pow.{pow-pos}
 use borrow.Author.Tests.{eq-eqb, ne-eqb}
 use Rattle.algebra.proofs.Run.{span-none}
 use Rattle.verdicts.specs.Walking.{Verdicts, is-open, colour-of, Cell, cell, in-turn, walking-order, those, record-of, records, record-at}
 use Rattle.verdicts.specs.Operational.{records-from}
 use Rattle.verdicts.proofs.Cells.{levels-below, walk-induction, records-cleared, records-last, records-open}
 use Rattle.verdicts.proofs.Lists.{those-first, those-cong, those-none}
-use Rattle.verdicts.proofs.Parts.{half-of, in-turn-cong, in-turn-member, those-in-turn, map-in-turn}
+use Rattle.verdicts.proofs.Parts.{half-of, below-side, in-turn-cong, in-turn-member, those-in-turn, map-in-turn}
 use Rattle.verdicts.proofs.Levels.{open-from, open-first}
 
 -- ---- the cells in walking order, of n further levels from a cell on, lie inside it
@@ -71,11 +70,8 @@ walked-inside k c m = elim (List·Memᴰ·cases-cons (rw (order-first k 0 0 0) a
   | inr r ↦ later-inside k 0 0 0 c r .1
 ]
 
-below-side : (x l : ℕ) → x / 2 ^ (l - 0) ≡ 0 → x < 2 ^ l
-below-side x l e = let s : x / 2 ^ l < 1 = omega (arith, rw Nat.sub-zero at e) in omega (arith, Nat.div-lt-iff-lt-mul {k = 2 ^ l} {x = x} {y = 1} (pow-pos l) .0 s)
-
 pub walked-on-grid : (k : ℕ) (c : Cell) → List·Memᴰ c (walking-order k 0 0 0) → (c .level ≤ k) × (c .column < 2 ^ c .level) × (c .row < 2 ^ c .level)
-walked-on-grid k c m = let i = walked-inside k c m in (omega (arith, i .reached), below-side _ _ (i .across), below-side _ _ (i .up))
+walked-on-grid k c m = let i = walked-inside k c m in (omega (arith, i .reached), below-side _ _ (rw Nat.sub-zero at (i .across)), below-side _ _ (rw Nat.sub-zero at (i .up)))
 
 -- ---- the cells that are listed, as the cells from `level` on decide it
 abbrev listed-from : Verdicts → ℕ → ℕ → Cell → Bool

@@ -2,13 +2,14 @@
 use mathlib.Core.Path.{_≡_, _∙_, ap}
 use mathlib.Core.Bool.{Bool, true, false, _||_}
 use mathlib.Core.List.{List, map, map-append, List·Memᴰ}
-use Prim.Native.Nat.{ℕ, suc, _+_, _*_, _/_, _^_, _≤_}
+use Prim.Native.Nat.{ℕ, suc, _+_, _*_, _/_, _^_, _≤_, _<_}
+use native.Mathlib.Nat as Nat
 use native.Mathlib.Numerals.{add-one}
 use native.Mathlib.Decide.{ℕ-discrete, decLe}
 use native.Mathlib.Omega.{arith}
 use lib.Dec.{eqb}
 use lib.ListN.{length, length-append}
-use lib.Pow.{shr-shr}
+use lib.Pow.{shr-shr, pow-pos}
 use borrow.Author.Tests.{eq-eqb, ne-eqb}
 use Rattle.verdicts.specs.Walking.{in-turn, those}
 use Rattle.verdicts.specs.Operational.{four, largest-four}
@@ -34,6 +35,10 @@ parts P p q h = record {
 -- the cell that encloses a part is one more level up
 pub half-of : (z n : ℕ) → z / 2 ^ n / 2 ≡ z / 2 ^ suc n
 half-of z n = shr-shr z n 1 ∙ ap (λ m. z / 2 ^ m) (add-one n)
+
+-- a column or a row under the cell of level 0 is one of the grid's
+pub below-side : (x l : ℕ) → x / 2 ^ l ≡ 0 → x < 2 ^ l
+below-side x l e = let s : x / 2 ^ l < 1 = omega arith in omega (arith, Nat.div-lt-iff-lt-mul {k = 2 ^ l} {x = x} {y = 1} (pow-pos l) .0 s)
 
 -- a number is 2a, or 2a + 1, or neither; its half is a in the first two cases
 pub data Halves (u a : ℕ) : Type 0 where

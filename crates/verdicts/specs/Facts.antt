@@ -68,26 +68,25 @@ ListingLong = (v : Verdicts) (k : ℕ) → (length (records v k) + cells-cut v k
 abbrev pub ColouredCounted : Type 0
 ColouredCounted = (v : Verdicts) (k : ℕ) → (coloured v k ≡ length (those (λ b. eqb b 1) (raster v k))) × (coloured v k ≡ length (those (λ r. eqb (colour-in r) 1) (records v k)))
 
--- ---- the largest bend, by which it is determined
--- no coloured finest cell has a larger one
-abbrev pub BendAtMost : Type 0
-BendAtMost = (v : Verdicts) (k p q : ℕ) → p < 2 ^ k → q < 2 ^ k → colour v k p q ≡ 1 → carried-bend (v k p q) ≤ largest-bend v k
-
--- where a cell is coloured, one of them has just that
-pub record MostBent (v : Verdicts) (k : ℕ) : Type 0 where
+-- ---- what determines a largest number
+-- a finest cell with the property, and with the number b
+pub record Having (k : ℕ) (has : ℕ → ℕ → Type 0) (number : ℕ → ℕ → ℕ) (b : ℕ) : Type 0 where
   pub column : ℕ
   pub row : ℕ
   pub across : column < 2 ^ k
   pub along : row < 2 ^ k
-  pub painted : colour v k column row ≡ 1
-  pub most : carried-bend (v k column row) ≡ largest-bend v k
+  pub holds : has column row
+  pub exact : number column row ≡ b
 
-abbrev pub BendReached : Type 0
-BendReached = (v : Verdicts) (k p q : ℕ) → p < 2 ^ k → q < 2 ^ k → colour v k p q ≡ 1 → MostBent v k
+-- b is the largest number of the finest cells with the property: no such cell has a larger one; where there is such a cell, one of them has just b; and where there is none, b is 0
+pub record IsLargest (k : ℕ) (has : ℕ → ℕ → Type 0) (number : ℕ → ℕ → ℕ) (b : ℕ) : Type 0 where
+  pub at-most : (p q : ℕ) → p < 2 ^ k → q < 2 ^ k → has p q → number p q ≤ b
+  pub reached : (p q : ℕ) → p < 2 ^ k → q < 2 ^ k → has p q → Having k has number b
+  pub none : ((p q : ℕ) → p < 2 ^ k → q < 2 ^ k → has p q → ⊥) → b ≡ 0
 
--- and it is 0 where none is
-abbrev pub NoneNoBend : Type 0
-NoneNoBend = (v : Verdicts) (k : ℕ) → ((p q : ℕ) → p < 2 ^ k → q < 2 ^ k → colour v k p q ≡ 1 → ⊥) → largest-bend v k ≡ 0
+-- the largest bend is that of the coloured finest cells
+abbrev pub BendLargest : Type 0
+BendLargest = (v : Verdicts) (k : ℕ) → IsLargest k (λ p q. colour v k p q ≡ 1) (λ p q. carried-bend (v k p q)) (largest-bend v k)
 
 -- ---- why a finest cell has its colour
 -- a cell covers the finest cell at column p, row q, that is encloses it or is that cell itself; it is visited, and its verdict is of this kind

@@ -56,7 +56,7 @@ abbrev pub PrintedCurve : Type 0
 PrintedCurve = (S : Sheet) (mode : ℕ) (old : List ℕ) (r : Tallied) (now : List ℕ) → RasterPromise S mode old r now → refusal (to-walk S mode (length old)) ≡ 0 →
     (M N : ℤ) (Q : ℕ) → 1 ≤ Q → InCell S 0 0 0 M N Q → value-at S M N Q ≡ pos 0 → (h : Holder S (S .k) M N Q) × (getD now (h .row * 2 ^ S .k + h .column) 0 ≡ 1)
 
--- the bend that the answer states is the label's, of the finest cells of which the byte is 1 (#101)
+-- the bend that the answer states is the largest among the finest cells of which the byte is 1, with all that `Labelled` says (#101)
 abbrev pub PrintedLabel : Type 0
 PrintedLabel = (S : Sheet) (mode : ℕ) (old : List ℕ) (r : Tallied) (now : List ℕ) → RasterPromise S mode old r now → refusal (to-walk S mode (length old)) ≡ 0 →
     Labelled S (mode-of mode) (λ p q. getD now (q * 2 ^ S .k + p) 0 ≡ 1) (states-tally r .bend)
@@ -89,7 +89,7 @@ ListedCurve = (S : Sheet) (mode : ℕ) (old : List ℕ) (r : Listed) (now : List
     (M N : ℤ) (Q : ℕ) → 1 ≤ Q → InCell S 0 0 0 M N Q → value-at S M N Q ≡ pos 0
     → (h : Holder S (S .k) M N Q) × (unfolded-at (S .k) (take (states-listing r .length) now) (h .column) (h .row) ≡ 1 ∷ [])
 
--- the bend that the answer states is the label's, of these cells (#101)
+-- the bend that the answer states is the largest among the finest cells that a record of colour 1 covers, with all that `Labelled` says (#101)
 abbrev pub ListedLabel : Type 0
 ListedLabel = (S : Sheet) (mode : ℕ) (old : List ℕ) (r : Listed) (now : List ℕ) → ListingPromise S mode old r now → refusal (to-walk S mode (length old)) ≡ 0 →
     Labelled S (mode-of mode) (λ p q. unfolded-at (S .k) (take (states-listing r .length) now) p q ≡ 1 ∷ []) (states-listing r .bend)

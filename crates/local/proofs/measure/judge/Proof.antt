@@ -46,12 +46,12 @@ returns c =
 returns-2 : tie.Need-returns-2
 returns-2 c =
     let s = c .before .before in let r = range s in
-    rw (same-lower s, same-upper s) (below (r .lower) (r .upper) (r .bend) (simp (same-lower s) at (c .before .if1 .left)) (simp (same-upper s) at (c .if2 .taken)))
+    rw (same-lower s, same-upper s) (below (r .lower) (r .upper) (r .bend) (simp (same-lower s) at (c .before .if1 .left)) (simp (same-lower s, same-upper s) at (c .if2 .taken)))
 
 returns-3 : tie.Need-returns-3
 returns-3 c =
     let s = c .before .before in let r = range s in
-    rw (same-lower s, same-upper s) (left-open (r .lower) (r .upper) (r .bend) (simp (same-lower s) at (c .before .if1 .left)) (simp (same-upper s) at (c .if2 .left)))
+    rw (same-lower s, same-upper s) (left-open (r .lower) (r .upper) (r .bend) (simp (same-lower s) at (c .before .if1 .left)) (simp (same-lower s, same-upper s) at (c .if2 .left)))
 
 pub judge-spec : {M : Type 1} → statement M
 judge-spec = tie.close (tie.spec returns returns-2 returns-3)

@@ -1,4 +1,6 @@
 -- `walk::cell::cut_cell` meets its contract: the sums fit, and they and the largest bend are those of the definition.
+use mathlib.Core.Path.{_≡_, refl, _∙_, ap₂}
+use Prim.Native.Nat.{max}
 use borrow.Author.Needs.{needs}
 use Rattle.walk.proofs.cell.cut_cell.Statement.{statement}
 use Rattle.walk.proofs.cell.cut_cell.Tie as tie
@@ -33,10 +35,12 @@ add-t13 c = search needs
 add-t14 : tie.Need-add-t14
 add-t14 c = search needs
 
+-- the last of the three comparisons gives the largest of the four
+largest-is : (c : tie.After-larger3) → let a = c .before .before .before .args in c .larger3 .result ≡ max (max (a .a .bend) (a .b .bend)) (max (a .c .bend) (a .d .bend))
+largest-is c = c .larger3 .ensures ∙ ap₂ max (c .before .before .larger .ensures) (c .before .larger2 .ensures)
+
 returns : tie.Need-returns
-returns c =
-    let k = c .before .before .before .before .before .before .before .before in
-    simp (k .larger3 .ensures, k .before .larger2 .ensures, k .before .before .larger .ensures)
+returns c = rw (largest-is (c .before .before .before .before .before .before .before .before)) refl
 
 pub cut-cell-spec : {M : Type 1} → statement M
 cut-cell-spec = tie.close (tie.spec larger-requires larger-requires-2 larger-requires-3 add-t8 add-t9 add-t10 add-t11 add-t12 add-t13 add-t14 returns)
