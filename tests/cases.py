@@ -1,4 +1,4 @@
-"""Cases for the comparison: the page's figures, the limits of the page, and seeded random cases.
+"""Cases for the comparison: the figures of tests/second.py, the limits of the page, and seeded random cases.
 
 A case is the name of a call and what the call is given, in the order of tests/second.py's functions; for the place that is lent to raster and
 listing stand its number of entries, a kind of content and a seed, from which `filled` makes what the entries hold before the call. The random
@@ -285,14 +285,14 @@ def limits():
 
 
 def tallied_cells():
-    """Every cell, up to level 2, of the sheets whose tallies the page prints."""
+    """Every cell, up to level 2, of the sheets of TALLIES."""
     for _, sheet, mode, _ in second.TALLIES:
         for j in range(min(sheet[-1], 2) + 1):
             yield from (("bounds", sheet + (mode, j, p, q)) for p in range(2 ** j) for q in range(2 ** j))
 
 
 def figures():
-    """The page's figures, with the number of a place's entries for the place."""
+    """The figures of FIGURES, with the number of a place's entries for the place."""
     for _, call, wanted, _ in second.FIGURES:
         yield call.__name__, wanted if call.__name__ in SINGLE else wanted[:-1] + (len(wanted[-1]),)
 
@@ -322,8 +322,9 @@ def hidden(rng):
 
 
 def bent(rng):
-    """Raster and listing of sheets whose largest bend is nearly 2^62, and of deeper ones, on which the sum of all bends is more than that."""
-    for k in (0, 0, 1, 1, 2):
+    """Raster and listing of a sheet whose largest bend is nearly 2^62, and of deeper ones, on most of which the bends of the coloured cells sum to
+    more than 2^63: a comparison fails where in some mode none do."""
+    for k in (0, 1, 1, 1, 2):
         sheet = heavy(rng, 2 ** 62 - 1, (k,), True)
         yield from ((call, tuple(sheet) + (mode, enough(rng, k))) for mode in (0, 1) for call in WALKS)
 
@@ -339,7 +340,7 @@ def at_limits(rng):
 
 
 def all_cases(seed, count):
-    """The figures and the cells of the sheets with printed tallies, the limits, places of every kind, walks that hide an open cell, so many
+    """The figures and the cells of the sheets of TALLIES, the limits, places of every kind, walks that hide an open cell, so many
     random cases, a third as many walks, and sheets that bend as much as a sheet can."""
     rng = random.Random(seed)
     cases = [*figures(), *tallied_cells(), *at_limits(rng), *lent(rng), *hidden(rng)]

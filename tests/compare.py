@@ -1,21 +1,23 @@
 """The proved program and the second program give the same answers.
 
-    python3 tests/compare.py [--seed S] [--cases N]     N random cases and N/3 walks, beside the page's figures and limits
+    python3 tests/compare.py [--seed S] [--cases N]     N random cases and N/3 walks, beside the figures and the page's limits
     python3 tests/compare.py --case CASE                one case again, as a disagreement prints it
 
 The program target/bin/compare is run once, on all cases of tests/cases.py; crates/compare/src says how a case and an answer are written
 in bytes. A case says what a lent place holds beforehand. Every answer is compared with that of tests/second.py, with every entry of a lent
-place as it is afterwards; and the tallies of the page's sheets are counted by walking through the program's verdicts and bends. A run in which
-some refusal, verdict, degree or depth, some kind of place at some depth in some mode, some content of some kind of place, or some kind of
-largest bend in some mode, never came up fails, too.
+place as it is afterwards; and the TALLIES there are counted by walking through the program's verdicts and bends. A run in which some refusal,
+verdict, degree or depth, some kind of place at some depth in some mode, some content of some kind of place, or some kind of largest bend in some
+mode, never came up fails, too, and so does one whose walks do not tell some wrong rule for the largest bend from the right one.
 
 Then the second program is held to the page. Demand 3 is tried on the accepted cells: at points with fractional coordinates in the closed
 cell, at its corners, and, where nothing bends, at the point where the value must be 0. Of every walk, the visited cells are those to which
 cutting open cells comes, in that order; visited is 1 plus 4 times the cells cut, and the listing unfolds to the raster.
 
 The proved program is held to the page alone, too, where it gave the raster and the listing of one sheet in one mode: its listing unfolds to
-its raster, both tallies are counted from the records, and both have one largest bend. Of each of its walks, the largest bend is held to what its
-coloured cells have, all or some of them.
+its raster, and both tallies are counted from the records.
+
+The largest bend is held to request #101, by the second program's bends and bounds: of each proved walk, to its coloured cells, all or some of them
+and one that bends most. The raster and the listing of one walk have the same.
 """
 import argparse
 import ast
@@ -29,7 +31,7 @@ sys.dont_write_bytecode = True  # nothing is left in the tree
 import second
 import second_walk
 from cases import CALLS, CONTENTS, COUNT, EDGE, ENTRIES, REFUSALS, WALKS, all_cases, filled
-from demands import LARGEST_BENDS, demand_3, largest_bend_fault, largest_bends_of
+from demands import LARGEST_BENDS, bends_of, demand_3, kinds_of, largest_bend_fault, untold
 from program import BUILT, code, number, written_by
 
 PROGRAM = BUILT / "compare"
@@ -128,14 +130,14 @@ def walk_of(args):
 
 
 def second_answers(cases):
-    """The answers, what is wrong with the walks, and the walks, each with the kinds that its largest bend is of. A walk is looked at when it is
-    answered: it is kept only for a while."""
+    """The answers, what is wrong with the walks, and the walks, each with what is asked of its bends. A walk is looked at when it is answered: it
+    is kept only for a while."""
     expected, faults, walks = [], [], {}
     for call, args in cases:
         expected.append(second_answer(call, args))
         if call in WALKS and expected[-1][0] == 0 and walk_of(args) not in walks:
             walk = walk_of(args)
-            walks[walk] = largest_bends_of(second.walked(*walk), args[5])
+            walks[walk] = bends_of(second.walked(*walk), args[5])
             fault = second.walk_fault(*walk)
             if fault:
                 faults.append(((call, args), fault))
@@ -194,7 +196,7 @@ def met(call, args, answered, walks):
             yield call, "no bend", verdict
     if call in WALKS:
         yield call, "depth", k, "mode", rest[0], "accepted"
-        yield from ((call, "mode", rest[0], "a largest bend", kind) for kind in walks[walk_of(args)])
+        yield from ((call, "mode", rest[0], "a largest bend", kind) for kind in kinds_of(walks[walk_of(args)]))
     if call == "raster":
         yield from ((call, "depth", k, "mode", rest[0], "colour", colour) for colour in set(values[-1][:4 ** k]))
     if call == "listing":
@@ -284,12 +286,12 @@ def tally(cases, expected, walks):
 
 
 def tallies(cases, answers):
-    """The tallies of the page's sheets that a walk by the proved program's verdicts and bends does not have."""
+    """The tallies of TALLIES that a walk by the proved program's verdicts and bends does not have."""
     told = {shown(*case): second.seen(*answered[1:]) for case, answered in zip(cases, answers) if case[0] == "bounds" and answered[0] == 0}
     for name, sheet, mode, counted in second.TALLIES:
         found = second_walk.tally(lambda *at: told.get(shown("bounds", sheet + (mode, *at)), (None, None)), sheet[-1])
         if found != counted:
-            yield f"{name}: a walk in mode {mode} counts {found}, and the page says {counted}"
+            yield f"{name}: a walk in mode {mode} counts {found}, and it should be {counted}"
 
 
 # ---- the proved program's walks
@@ -333,10 +335,11 @@ def coloured_by(call, k, answered):
     return [second_walk.cell_of(record) for record in place[:answered[1]] if second_walk.colour_of(record) == 1]
 
 
-def bend_faults(rng, first):
+def bend_faults(rng, first, walks):
     """Of each walk what is wrong with its largest bend, or nothing: by its raster, or by its listing where there is no raster."""
-    told = {walk: (call, answered) for call in ("listing", "raster") for walk, answered in first[call].items()}
-    return {walk: largest_bend_fault(rng, walk, coloured_by(call, walk[5], answered), answered[-2]) for walk, (call, answered) in told.items()}
+    told = {walk: (call, answered) for call in ("listing", "raster") for walk, answered in first[call].items() if walk in walks}
+    return {walk: largest_bend_fault(rng, walk, walks[walk], coloured_by(call, walk[5], answered), answered[-2])
+            for walk, (call, answered) in told.items()}
 
 
 # ---- all of it
@@ -366,7 +369,7 @@ def main():
     for args, fault in broken[:SHOWN]:
         print(f"demand 3 does not hold on --case \"{shown('bounds', args)}\": {fault}")
     first = firsts(cases, answers)
-    paired, bent = pairs(first), bend_faults(rng, first)
+    paired, bent = pairs(first), bend_faults(rng, first, walks)
     unlike = [(walk, fault) for walk, fault in paired.items() if fault]
     for walk, fault in unlike[:SHOWN]:
         print(f"the proved program's raster and listing of {walk} are not of one walk: {fault}")
@@ -375,22 +378,20 @@ def main():
         print(f"the proved program's walk of {walk} has another largest bend: {fault}")
     if chosen.case:
         print(f"the second program: {brief(expected[0], answers[0])}")
-        missing, miscounted = [], []
+        lacking = []
     else:
         compared = {walk[-2:] for walk in paired}
         missing = tally(cases, expected, walks)
         missing += [f"raster and listing of one walk, depth {k} mode {mode}" for k in range(8) for mode in (0, 1) if (k, mode) not in compared]
-        for thing in missing:
-            print(f"never came up: {thing}")
-        miscounted = list(tallies(cases, answers))
-        for fault in miscounted:
+        lacking = [f"never came up: {thing}" for thing in missing] + [*untold(walks), *tallies(cases, answers)]
+        for fault in lacking:
             print(fault)
     print(f"compare: seed {chosen.seed}, {len(cases) - len(wrong)} of {len(cases)} answers agree, "
           f"demand 3 holds on {len(cells) - len(broken)} of {len(cells)} cells, "
           f"{len(walks) - len(faults)} of {len(walks)} walks are as the page says, "
           f"the proved listing unfolds to the proved raster on {len(paired) - len(unlike)} of {len(paired)}, "
           f"the largest bend is that of the coloured cells on {len(bent) - len(misbent)} of {len(bent)}")
-    return 1 if wrong or broken or faults or unlike or misbent or missing or miscounted else 0
+    return 1 if wrong or broken or faults or unlike or misbent or lacking else 0
 
 
 if __name__ == "__main__":

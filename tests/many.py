@@ -30,7 +30,7 @@ import cases
 import compare
 import text_places
 import texts
-from demands import LARGEST_BENDS
+from demands import LARGEST_BENDS, kinds_of
 from many_cases import random_text, single_cases, walk_cases
 from program import BUILT
 
@@ -82,7 +82,7 @@ def compared(found, made):
     for (call, args), got, wanted in zip(made, answers, expected):
         walk = call in cases.WALKS
         noted(found, call, compare.record(call, args), wanted[0], args[0], args[5], args[-1][1:2] if walk else (), got == wanted,
-              walks[compare.walk_of(args)] if walk and wanted[0] == 0 else ())
+              kinds_of(walks[compare.walk_of(args)]) if walk and wanted[0] == 0 else ())
     found.faults.extend(compare.faults_of_walks(faults) + compare.disagreements(made, answers, expected))
 
 

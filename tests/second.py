@@ -1,4 +1,4 @@
-"""The second program: the calls check, value, bounds, raster and listing, worked out from the definition page alone.
+"""The second program: the calls check, value, bounds, raster and listing, worked out from the definition page and request #101.
 
 Plain exact whole numbers, in the page's order and by the page's formulas, with no thought for the size of a number and little for
 speed. It shares nothing with the proved crates, so that where the two agree neither leans on the other. (Who wrote its walks had seen the
@@ -10,7 +10,7 @@ bend among coloured cells too, which request #101 adds to the page's.
 An answer begins with a number: 0 where the sheet is accepted, else the number of the refusal with zeros beside it. Where a place is lent,
 the answer ends with all of the place's entries as they are afterwards.
 
-    python3 tests/second.py     holds the program to the figures that the page prints
+    python3 tests/second.py     holds the program to the figures that the page prints, and to some that are worked out by hand
 """
 import functools
 import sys
@@ -214,7 +214,7 @@ def listing(d, coefficients, X, Y, s, k, mode, place):
     return 0, len(records), *tally_of(walk, k), records + place[len(records):]
 
 
-# ---- the page's own figures
+# ---- the page's own figures, and some of request #101
 
 def terms(d, named):
     """The coefficients of a polynomial of degree d, those not named being 0."""
@@ -297,7 +297,8 @@ FIGURES = [
     *(("P12", check, sheet(8, {e: sign}, 0, 0, 7), (6, 0, 0)) for e in exponents(8) for sign in (1, -1)),
 ]
 
-# a sheet, a mode, and the tally of a walk by the verdicts and bends: visited, coloured, and the largest bend, which the page does not print
+# a sheet, a mode, and the tally of a walk by the verdicts and bends: visited, coloured, and the largest bend. The page prints no largest bend, and no
+# tally of P8, P9 and x^3
 TALLIES = [
     ("P1", P1, 0, (1, 0, 0)),
     ("P3", P1, 1, (5, 4, 32)),
@@ -316,7 +317,7 @@ def main():
     for name, given, mode, counted in TALLIES:
         answer = tally(lambda *at: seen(*bounds(*given, mode, *at)[1:]), given[-1])
         if answer != counted:
-            print(f"{name}: a walk in mode {mode} counts {answer}, and the page says {counted}")
+            print(f"{name}: a walk in mode {mode} counts {answer}, and it should be {counted}")
             wrong += 1
         fault = walk_fault(*given, mode)
         if fault:
@@ -325,10 +326,10 @@ def main():
     for name, call, given, printed in FIGURES:
         answer = call(*given)
         if len(answer) != len(printed) or any(p is not None and p != a for a, p in zip(answer, printed)):
-            print(f"{name}: {call.__name__}{given} answers {answer}, and the page says {printed}")
+            print(f"{name}: {call.__name__}{given} answers {answer}, and it should be {printed}")
             wrong += 1
     figures = len(FIGURES) + 2 * len(TALLIES)
-    print(f"second program: {figures - wrong} of {figures} of the page's figures and of what it says of every walk hold")
+    print(f"second program: {figures - wrong} of {figures} hold: the figures of the page and of request #101, and what the page says of every walk")
     return 1 if wrong else 0
 
 
