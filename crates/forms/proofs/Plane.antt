@@ -144,6 +144,10 @@ one-sign : (s : ℤ) → natAbs s ≡ 1 → (s ≡ pos 1) ⊎ (s ≡ negsuc 0)
 one-sign (pos n) h = inl (ap pos h)
 one-sign (negsuc n) h = inr (ap negsuc (omega arith))
 
+-- what follows at each of them
+pub at-each : (U0 V0 : ℤ) (H : ℕ) (P Q : ℤ → ℤ → Type 0) → ((x y : ℤ) → P x y → Q x y) → AtCorners U0 V0 H P → AtCorners U0 V0 H Q
+at-each U0 V0 H P Q f (a, b, c, d) = (f _ _ a, f _ _ b, f _ _ c, f _ _ d)
+
 module _ (d S : ℕ) (A : ℕ → ℕ → ℤ) (U0 V0 : ℤ) (H : ℕ) where
   -- what holds of the values at the four corners holds at each corner u + H σ
   pub at-corners : (P : ℤ → Type 0) → AtCorners U0 V0 H (λ x y. P (value (plane d S A) (pair x y) 1)) → (σ : Point) → Signs (plane d S A) σ → P (value (plane d S A) (corner (pair U0 V0) H σ) 1)

@@ -18,7 +18,7 @@ use Rattle.forms.specs.Weight as Weights
 use Rattle.forms.specs.Plane.{pair, AtCorners}
 use Rattle.forms.proofs.Demand3 as Box
 use Rattle.forms.proofs.NoBend.{meets}
-use Rattle.forms.proofs.Plane.{both, pair-index, in-plane, value-pair, lower-four-corners, upper-four-corners}
+use Rattle.forms.proofs.Plane.{both, pair-index, in-plane, value-pair, at-each, lower-four-corners, upper-four-corners}
 use Rattle.forms.proofs.Size.{local-size, lower-size, upper-size, bend-size, box-limited, value-in-box-size}
 use Rattle.verdicts.specs.declared.Verdict.{Verdict}
 use Rattle.verdicts.specs.declared.Verdict.the-variants.{Above, Below, Open}
@@ -71,7 +71,7 @@ one-sign S mode j p q M N Q o c l u b =
 
 -- overshoot, by the four corners
 at-values : (S : Sheet) (j p q : ℕ) (P : ℤ → Type 0) → AtCorners (U0 S j p) (V0 S j q) (half-side S j) (λ u v. P (F S u v)) → AtCorners (U0 S j p) (V0 S j q) (half-side S j) (λ u v. P (value (polynomial S) (pair u v) 1))
-at-values S j p q P (a, b, c, d) = (subst P (F-is S _ _) a, subst P (F-is S _ _) b, subst P (F-is S _ _) c, subst P (F-is S _ _) d)
+at-values S j p q P = at-each (U0 S j p) (V0 S j q) (half-side S j) _ _ (λ u v. subst P (F-is S u v))
 
 pub no-overshoot : NoOvershoot
 no-overshoot S mode j p q = (

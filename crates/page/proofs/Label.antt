@@ -9,6 +9,7 @@ use lib.Signed.{_≤ℤ_, _<ℤ_}
 use Rattle.algebra.proofs.Order.{≤ℤ-by, ≤ℤ-trans, <ℤ-step, pos-mono, pos-cancel}
 use Rattle.algebra.proofs.Ring.{ring, _⊕_, _⊖_, ⊝_, #_, _≐_}
 use Rattle.forms.specs.Bounds.{Mode}
+use Rattle.forms.proofs.Plane.{at-each}
 use Rattle.verdicts.specs.Walking.{colour, largest-bend}
 use Rattle.verdicts.specs.Facts.{IsLargest}
 use Rattle.verdicts.proofs.Judging.{judged-bend}
@@ -23,8 +24,8 @@ use Rattle.page.proofs.Raster.{coloured-open, coloured-meets}
 
 -- ---- corner values and bounds
 module _ (S : Sheet) (j p q : ℕ) where
-  at-each : (P Q : ℤ → Type 0) → ((z : ℤ) → P z → Q z) → AtCorners (U0 S j p) (V0 S j q) (half-side S j) (λ u v. P (F S u v)) → AtCorners (U0 S j p) (V0 S j q) (half-side S j) (λ u v. Q (F S u v))
-  at-each P Q f (a, b, c, d) = (f _ a, f _ b, f _ c, f _ d)
+  at-values : (P Q : ℤ → Type 0) → ((z : ℤ) → P z → Q z) → AtCorners (U0 S j p) (V0 S j q) (half-side S j) (λ u v. P (F S u v)) → AtCorners (U0 S j p) (V0 S j q) (half-side S j) (λ u v. Q (F S u v))
+  at-values P Q f = at-each (U0 S j p) (V0 S j q) (half-side S j) (λ u v. P (F S u v)) (λ u v. Q (F S u v)) (λ u v. f (F S u v))
 
   module _ (low high : ℤ) where
     -- what is near is near by more, too
@@ -39,10 +40,10 @@ module _ (S : Sheet) (j p q : ℕ) where
         → (AtCorners (U0 S j p) (V0 S j q) (half-side S j) (λ u v. pos n <ℤ F S u v) → ⊥) × (AtCorners (U0 S j p) (V0 S j q) (half-side S j) (λ u v. F S u v <ℤ negℤ (pos n)) → ⊥)
     not-beyond n h o = (
       λ c.
-          let l = h .0 (pos n +ℤ pos 1) (at-each (λ z. pos n <ℤ z) (λ z. (pos n +ℤ pos 1) ≤ℤ z) (λ z s. <ℤ-step .0 s) c) in
+          let l = h .0 (pos n +ℤ pos 1) (at-values (λ z. pos n <ℤ z) (λ z. (pos n +ℤ pos 1) ≤ℤ z) (λ z s. <ℤ-step .0 s) c) in
           let z : pos 1 ≤ℤ pos 0 = ≤ℤ-by (≤ℤ-trans l (o .0)) (ring (pos n ∷ []) (λ n. # 0 ⊖ # 1 ≐ # 0 ⊖ (n ⊕ # 1 ⊖ n)) tt) in omega (arith, pos-cancel z),
       λ c.
-          let l = h .1 (negℤ (pos n) -ℤ pos 1) (at-each (λ z. z <ℤ negℤ (pos n)) (λ z. z ≤ℤ (negℤ (pos n) -ℤ pos 1)) (λ z s. ≤ℤ-by (<ℤ-step .0 s) (ring (z ∷ pos n ∷ []) (λ f n. ⊝ n ⊖ # 1 ⊖ f ≐ ⊝ n ⊖ (f ⊕ # 1)) tt)) c) in
+          let l = h .1 (negℤ (pos n) -ℤ pos 1) (at-values (λ z. z <ℤ negℤ (pos n)) (λ z. z ≤ℤ (negℤ (pos n) -ℤ pos 1)) (λ z s. ≤ℤ-by (<ℤ-step .0 s) (ring (z ∷ pos n ∷ []) (λ f n. ⊝ n ⊖ # 1 ⊖ f ≐ ⊝ n ⊖ (f ⊕ # 1)) tt)) c) in
           let z : pos 1 ≤ℤ pos 0 = ≤ℤ-by (≤ℤ-trans (o .1) l) (ring (pos n ∷ []) (λ n. # 0 ⊖ # 1 ≐ ⊝ n ⊖ # 1 ⊕ n ⊖ # 0) tt) in omega (arith, pos-cancel z),
     )
 
