@@ -5,7 +5,6 @@ use Prim.Native.Nat.{ℕ, _+_, _*_, _-_, _^_, _≤_}
 use native.Mathlib.Nat as Nat
 use native.Mathlib.Omega.{arith}
 use lib.IntN.{ℤ, pos, natAbs}
-use lib.Pow.{pow-pos}
 use Rattle.algebra.specs.Sum.{sumℕ, _⋯_}
 use Rattle.algebra.specs.Triangle.{place, triangle}
 use Rattle.algebra.proofs.Sum.{sum-cong, sumℕ-cong}
@@ -26,8 +25,8 @@ use Rattle.local.proofs.Moves.{moved-agree}
 use Rattle.page.specs.Sheet.{Sheet}
 use Rattle.page.specs.Scaled.{scaled, F, IsCell, half-side, U0, V0}
 use Rattle.page.specs.LocalForm.{G}
-use Rattle.page.specs.Weight.{R, Accepted}
-use Rattle.page.proofs.Weights.{R-positive, weight-is, scaled-load}
+use Rattle.page.specs.Weight.{Rx, Ry, Accepted}
+use Rattle.page.proofs.Weights.{limits, limit-positive, weight-is, scaled-load}
 use Rattle.page.proofs.Page.{polynomial, centre, G-is}
 use Rattle.page.proofs.Demand3.{limited}
 
@@ -70,16 +69,16 @@ moved-held {d} {f} {form} {r} u v h t w =
 -- ---- the scaled coefficients of an accepted sheet
 module _ {S : Sheet} (a : Accepted S) {form : Form} (t : Tabled (S .d) (scaled S) form) where
   -- they may be moved about a point within the limits
-  pub movable : (u v h : ℤ) → natAbs u + natAbs h ≤ 2 ^ (S .k + 1) * R S → natAbs v + natAbs h ≤ 2 ^ (S .k + 1) * R S → Movable form u v h
+  pub movable : (u v h : ℤ) → natAbs u + natAbs h ≤ 2 ^ (S .k + 1) * Rx S → natAbs v + natAbs h ≤ 2 ^ (S .k + 1) * Ry S → Movable form u v h
   movable u v h p q =
-      let m = 2 ^ (S .k + 1) * R S in let o : 1 ≤ m = Nat.mul-le-mul (pow-pos (S .k + 1)) (R-positive S) in
+      let m = 2 ^ (S .k + 1) * Rx S in let n = 2 ^ (S .k + 1) * Ry S in
       record {
         small = rw (t .degree) (a .ranges .degree);
         a = m;
-        b = m;
-        positive = (o, o);
+        b = n;
+        positive = (limit-positive (S .k) (S .X) (S .s), limit-positive (S .k) (S .Y) (S .s));
         wide = (p, q);
-        light = rw (triangle-held t (λ i j z. natAbs z * (m ^ i * m ^ j)), scaled-load S) (let l = a .light in omega arith);
+        light = rw (triangle-held t (λ i j z. natAbs z * (m ^ i * n ^ j)), scaled-load S) (let l = a .light in omega arith);
       }
 
   -- the value
@@ -97,7 +96,7 @@ module _ {S : Sheet} (a : Accepted S) {form : Form} (t : Tabled (S .d) (scaled S
     local-light c = record {
       small = rw (local-held .degree) (a .ranges .degree);
       light = rw (triangle-held local-held (λ i k z. natAbs z), sizes)
-          (let h = local-sum-size (polynomial S) (centre S j p q) (half-side S j) (λ v. R S) (limited S j p q c) in let w = weight-is S in let l = a .light in omega arith);
+          (let h = local-sum-size (polynomial S) (centre S j p q) (half-side S j) (limits S) (limited S j p q c) in let w = weight-is S in let l = a .light in omega arith);
     }
       where
         sizes : triangle (S .d) (λ i k. natAbs (G S j p q i k)) ≡ sumℕ (vectors 2 (S .d)) (λ e. natAbs (local (polynomial S) (centre S j p q) (half-side S j) e))

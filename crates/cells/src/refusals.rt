@@ -54,8 +54,9 @@ pub fn sheet_weight(d: u32, coefficients: &[i32], x: i32, y: i32, s: u32, k: u32
     requires { ⌜ InRange (sheet-of d (now coefficients) x y s k) ⌝ }
     ensures { λ r. ⌜ r ≡ min (weight (sheet-of d (now (coefficients .entry)) x y s k)) (2 ^ 62) ⌝ }
 {
-    let r = numbers::larger(weight::reach(x, s), weight::reach(y, s));
-    weight::capped_weight(d, coefficients, r, (k + 1) * d)
+    let rx = weight::reach(x, s);
+    let ry = weight::reach(y, s);
+    weight::capped_weight(d, coefficients, rx, ry, (k + 1) * d)
 }
 
 // The first of 1 to 6 that holds, or 0.

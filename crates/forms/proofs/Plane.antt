@@ -87,12 +87,12 @@ module _ (d k : ℕ) (A : ℕ → ℕ → ℤ) where
       all-terms U0 V0 H a b ∙ sum-⋯-from a d (λ i. sum (0 ⋯ (d - i)) (t i)) first ∙ sum-cong (a ⋯ d) (λ i m. sum-⋯-from b (d - i) (t i) (second i))
 
   -- ---- the weight: 2^((k+1)d) times the sum of |A(i,j)| Rx^i Ry^j, and of |A(i,j)| R^(i+j) where R is the limit of both variables
-  pub weight-axes : (R : ℕ → ℕ) → weight (plane d (2 ^ (k + 1)) A) R ≡ 2 ^ ((k + 1) * d) * sumℕ (0 ⋯ d) (λ i. sumℕ (0 ⋯ (d - i)) (λ j. natAbs (A i j) * (R 0 ^ i * R 1 ^ j)))
+  pub weight-axes : (R : ℕ → ℕ) → weight (plane d (2 ^ (k + 1)) A) R ≡ 2 ^ ((k + 1) * d) * sumℕ (0 ⋯ d) (λ i. sumℕ (0 ⋯ (d - i)) (λ j. natAbs (A i j) * R 0 ^ i * R 1 ^ j))
   unfolding weight powersℕ
-  weight-axes R = rw (scale-pageℕ k d) (ap (λ n. 2 ^ ((k + 1) * d) * n) (sumℕ-plane d (λ e. _) ∙ simp Nat.mul-one))
+  weight-axes R = rw (scale-pageℕ k d) (ap (λ n. 2 ^ ((k + 1) * d) * n) (sumℕ-plane d (λ e. _) ∙ simp (Nat.mul-one, Nat.mul-assoc)))
 
   pub weight-plane : (R : ℕ) → weight (plane d (2 ^ (k + 1)) A) (λ v. R) ≡ 2 ^ ((k + 1) * d) * sumℕ (0 ⋯ d) (λ i. sumℕ (0 ⋯ (d - i)) (λ j. natAbs (A i j) * R ^ (i + j)))
-  weight-plane R = rw (weight-axes (λ v. R)) (simp (← pow-add))
+  weight-plane R = rw (weight-axes (λ v. R)) (simp (Nat.mul-assoc, ← pow-add))
 
 module _ (d S : ℕ) (A : ℕ → ℕ → ℤ) where
   -- ---- M/Q and N/Q lie in the square

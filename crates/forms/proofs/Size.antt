@@ -15,7 +15,7 @@ use Rattle.algebra.proofs.Absolute.{natAbs-*ℤ, natAbs-pow, natAbs-+ℤ, natAb
 use Rattle.algebra.proofs.Ring.{ring, _⊕_, _⊖_, _⊗_, #_, _≐_}
 use Rattle.algebra.proofs.Sum.{sum-cong, *ℤ-sum, pos-sumℕ, sumℕ-cong, sumℕ-mono, sumℕ-member, *-sumℕ, sumℕ-swap, natAbs-sum, natAbs-sum-part}
 use Rattle.forms.specs.Vectors.{total, chooses, _∸_}
-use Rattle.forms.specs.Points.{Point, powers, powersℕ}
+use Rattle.forms.specs.Points.{Point, Each, powers, powersℕ}
 use Rattle.forms.specs.Polynomial.{Polynomial, Index, indices, scaled, value-term, value}
 use Rattle.forms.specs.Box.{InBox, Signs, corner}
 use Rattle.forms.specs.LocalForm.{local-term, local}
@@ -39,6 +39,12 @@ pub weight-majorants : (F : Polynomial) (R : ℕ → ℕ) → weight F R ≡ sum
 unfolding weight
 weight-majorants F R = *-sumℕ (F .scale ^ F .degree) (indices F) (λ e. natAbs (F .coefficient e) * powersℕ R e)
     ∙ sumℕ-cong (indices F) (λ e m. sym (majorant-is F R e (vectors-fit (F .variables) (F .degree) m .1)))
+
+-- ---- smaller limits make no larger weight
+pub weight-mono : (F : Polynomial) (R T : ℕ → ℕ) → Each (F .variables) (λ v. R v ≤ T v) → weight F R ≤ weight F T
+unfolding weight
+weight-mono F R T h = Nat.mul-le-mul-left (F .scale ^ F .degree) (sumℕ-mono (indices F) (λ e m. Nat.mul-le-mul-left (natAbs (F .coefficient e))
+    (powersℕ-mono e R T (subst (λ n. Each n (λ v. R v ≤ T v)) (sym (vectors-fit (F .variables) (F .degree) m .0)) h))))
 
 -- ---- the factors of one term: |A(e)| S^(d-|e|) m, and m itself where A(e) is not zero, for any m up to (S R)^e
 module _ (F : Polynomial) (R : ℕ → ℕ) (e : List ℕ) (i : Index F e) where

@@ -1,4 +1,4 @@
--- The cells lie in the square, and the square within R.
+-- The cells lie in the square, and the square within the limits Rx and Ry.
 use mathlib.Core.Path.{_≡_, sym, _∙_, ap, subst}
 use mathlib.Core.Bool.{false, not}
 use mathlib.Core.List.{[], _∷_}
@@ -14,7 +14,7 @@ use Rattle.algebra.proofs.Order.{≤ℤ-by, ≤ℤ-trans, negℤ-mono, pos-mono
 use Rattle.algebra.proofs.Ring.{ring, _⊕_, _⊖_, _⊗_, #_, _≐_}
 use Rattle.page.specs.Sheet.{Sheet, InRange}
 use Rattle.page.specs.Scaled.{IsCell, half-side, U0, V0}
-use Rattle.page.specs.Weight.{R}
+use Rattle.page.specs.Weight.{Rx, Ry}
 use Rattle.page.specs.Refusals.{outside-side, misplaced, point}
 use Rattle.page.proofs.Rows.{or-both}
 
@@ -71,26 +71,26 @@ module _ (S : Sheet) (j p : ℕ) (level : j ≤ S .k) (column : p < 2 ^ j) where
   pub cell-limit : (z : ℤ) (r : ℕ) → natAbs z ≤ r → natAbs (z +ℤ pos (2 ^ S .s)) ≤ r → natAbs (pos (2 ^ (S .k + 1)) *ℤ z +ℤ pos ((2 * p + 1) * H)) + H ≤ 2 ^ (S .k + 1) * r
   cell-limit z r near far = interval-limit z (S .s) (2 ^ (S .k + 1)) r near far ((2 * p + 1) * H) H inside-low inside-high
 
--- ---- so the centre and the half-side are at most 2^(k+1) R
+-- ---- so the centre and the half-side are at most 2^(k+1) Rx across, and 2^(k+1) Ry along
 module _ (S : Sheet) (j p q : ℕ) (c : IsCell (S .k) j p q) where
-  pub limit-u : natAbs (U0 S j p) + half-side S j ≤ 2 ^ (S .k + 1) * R S
-  limit-u = cell-limit S j p (c .level) (c .column) (S .X) (R S) (omega arith) (omega arith)
+  pub limit-u : natAbs (U0 S j p) + half-side S j ≤ 2 ^ (S .k + 1) * Rx S
+  limit-u = cell-limit S j p (c .level) (c .column) (S .X) (Rx S) (omega arith) (omega arith)
 
-  pub limit-v : natAbs (V0 S j q) + half-side S j ≤ 2 ^ (S .k + 1) * R S
-  limit-v = cell-limit S j q (c .level) (c .row) (S .Y) (R S) (omega arith) (omega arith)
+  pub limit-v : natAbs (V0 S j q) + half-side S j ≤ 2 ^ (S .k + 1) * Ry S
+  limit-v = cell-limit S j q (c .level) (c .row) (S .Y) (Ry S) (omega arith) (omega arith)
 
--- ---- a whole-number point that is not outside the square: its coordinates are at most 2^(k+1) R
+-- ---- a whole-number point that is not outside the square: its coordinates are at most 2^(k+1) Rx and 2^(k+1) Ry
 pub inside-side : (s k : ℕ) (z u : ℤ) → outside-side s k z u ≡ false → ((pos (2 ^ (k + 1)) *ℤ z) ≤ℤ u) × (u ≤ℤ (pos (2 ^ (k + 1)) *ℤ (z +ℤ pos (2 ^ s))))
 inside-side s k z u e = let h = or-both (ltZ u (pos (2 ^ (k + 1)) *ℤ z)) (ltZ (pos (2 ^ (k + 1)) *ℤ (z +ℤ pos (2 ^ s))) u) e in (at-least (h .0), at-least (h .1))
   where
     at-least : {a b : ℤ} → ltZ a b ≡ false → b ≤ℤ a
     at-least e = ltZ-no (subst (λ b. T (not b)) (sym e) tt)
 
-pub point-limit : (S : Sheet) (u v : ℤ) → misplaced S (point u v) ≡ false → (natAbs u ≤ 2 ^ (S .k + 1) * R S) × (natAbs v ≤ 2 ^ (S .k + 1) * R S)
+pub point-limit : (S : Sheet) (u v : ℤ) → misplaced S (point u v) ≡ false → (natAbs u ≤ 2 ^ (S .k + 1) * Rx S) × (natAbs v ≤ 2 ^ (S .k + 1) * Ry S)
 point-limit S u v e =
     let h = or-both (outside-side (S .s) (S .k) (S .X) u) (outside-side (S .s) (S .k) (S .Y) v) e in
     let x = inside-side (S .s) (S .k) (S .X) u (h .0) in let y = inside-side (S .s) (S .k) (S .Y) v (h .1) in
-    (axis-limit (S .X) (S .s) (2 ^ (S .k + 1)) (R S) (omega arith) (omega arith) u (x .0) (x .1), axis-limit (S .Y) (S .s) (2 ^ (S .k + 1)) (R S) (omega arith) (omega arith) v (y .0) (y .1))
+    (axis-limit (S .X) (S .s) (2 ^ (S .k + 1)) (Rx S) (omega arith) (omega arith) u (x .0) (x .1), axis-limit (S .Y) (S .s) (2 ^ (S .k + 1)) (Ry S) (omega arith) (omega arith) v (y .0) (y .1))
 
 -- ---- the numbers of a cell on an accepted sheet are small
 module _ {S : Sheet} {j p q : ℕ} (r : InRange S) (c : IsCell (S .k) j p q) where

@@ -27,10 +27,10 @@ use Rattle.verdicts.proofs.Judging.{judged-bend}
 use Rattle.page.specs.Sheet.{Sheet, A}
 use Rattle.page.specs.Scaled.{F, IsCell, InCell, half-side, U0, V0}
 use Rattle.page.specs.Bounds.{lower, upper, bend, verdict}
-use Rattle.page.specs.Weight.{R, weight, Accepted}
+use Rattle.page.specs.Weight.{reach, Rx, Ry, weight, Accepted}
 use Rattle.page.specs.Demand3.{Contained, NoOvershoot, OneSign, OpenMeets, Fits64, CellFits, AllFit}
 use Rattle.page.proofs.Cells.{limit-u, limit-v}
-use Rattle.page.proofs.Weights.{weight-is}
+use Rattle.page.proofs.Weights.{limits, weight-is}
 use Rattle.page.proofs.Page.{polynomial, centre, value-is, F-is, G-is, lower-is, upper-is, bend-is}
 
 -- ---- the cell is the box
@@ -101,24 +101,28 @@ open-meets S mode j p q l u e =
 -- ---- sizes: on an accepted sheet all of it fits in 64 signed bits
 module _ (S : Sheet) (j p q : ℕ) (c : IsCell (S .k) j p q) where
   -- the cell lies within the limits
-  pub limited : Weights.Limited (polynomial S) (centre S j p q) (half-side S j) (λ v. R S)
-  limited = both (λ v. natAbs (centre S j p q v) + half-side S j ≤ 2 ^ (S .k + 1) * R S) (limit-u S j p q c) (limit-v S j p q c)
+  pub limited : Weights.Limited (polynomial S) (centre S j p q) (half-side S j) (limits S)
+  limited = both (λ v. natAbs (centre S j p q v) + half-side S j ≤ 2 ^ (S .k + 1) * limits S v) (limit-u S j p q c) (limit-v S j p q c)
 
   module _ (a : Accepted S) where
-    -- a coordinate within the limits fits
-    fits-limit : (u : ℤ) → natAbs u ≤ 2 ^ (S .k + 1) * R S → Fits64 u
-    fits-limit u h = Nat.lt-of-le-of-lt (Nat.le-trans h (Nat.mul-le-mul scale-small R-small)) (omega arith)
+    -- a coordinate within the limit of its axis fits
+    fits-limit : (z : ℤ) → natAbs z ≤ 1_048_576 → (u : ℤ) → natAbs u ≤ 2 ^ (S .k + 1) * reach z (S .s) → Fits64 u
+    fits-limit z m u h = Nat.lt-of-le-of-lt (Nat.le-trans h (Nat.mul-le-mul scale-small reach-small)) (omega arith)
       where
         scale-small : 2 ^ (S .k + 1) ≤ 2 ^ 8
         scale-small = let d = a .ranges .depth in let e : S .k + 1 ≤ 8 = omega arith in pow-mono e
 
-        R-small : R S ≤ 2_097_152
-        R-small =
-            let s : 2 ^ S .s ≤ 2 ^ 10 = pow-mono (a .ranges .side) in let x = a .ranges .corner-x in let y = a .ranges .corner-y in
-            let f = natAbs-+ℤ (S .X) (pos (2 ^ S .s)) in let g = natAbs-+ℤ (S .Y) (pos (2 ^ S .s)) in omega arith
+        reach-small : reach z (S .s) ≤ 2_097_152
+        reach-small = let s : 2 ^ S .s ≤ 2 ^ 10 = pow-mono (a .ranges .side) in let f = natAbs-+ℤ z (pos (2 ^ S .s)) in omega arith
+
+    fits-u : (u : ℤ) → natAbs u ≤ 2 ^ (S .k + 1) * Rx S → Fits64 u
+    fits-u u h = fits-limit (S .X) (a .ranges .corner-x) u h
+
+    fits-v : (v : ℤ) → natAbs v ≤ 2 ^ (S .k + 1) * Ry S → Fits64 v
+    fits-v v h = fits-limit (S .Y) (a .ranges .corner-y) v h
 
     -- what is at most the weight fits
-    fits-weight : (z : ℤ) → natAbs z ≤ Weights.weight (polynomial S) (λ v. R S) → Fits64 z
+    fits-weight : (z : ℤ) → natAbs z ≤ Weights.weight (polynomial S) (limits S) → Fits64 z
     fits-weight z h = let w = weight-is S in let l = a .light in omega arith
 
     minus-le : (u : ℤ) (h n : ℕ) → natAbs u + h ≤ n → natAbs (u -ℤ pos h) ≤ n
@@ -129,14 +133,14 @@ module _ (S : Sheet) (j p q : ℕ) (c : IsCell (S .k) j p q) where
 
     cell-fits : (mode : Bounds.Mode) → CellFits S mode j p q
     cell-fits mode =
-        let P = polynomial S in let u = centre S j p q in let H = half-side S j in let r : ℕ → ℕ = λ v. R S in let n = 2 ^ (S .k + 1) * R S in
+        let P = polynomial S in let u = centre S j p q in let H = half-side S j in let r = limits S in let m = 2 ^ (S .k + 1) * Rx S in let n = 2 ^ (S .k + 1) * Ry S in
         let hu = limit-u S j p q c in let hv = limit-v S j p q c in
-        let left = fits-limit (U0 S j p -ℤ pos H) (minus-le (U0 S j p) H n hu) in let right = fits-limit (U0 S j p +ℤ pos H) (plus-le (U0 S j p) H n hu) in
-        let bottom = fits-limit (V0 S j q -ℤ pos H) (minus-le (V0 S j q) H n hv) in let top = fits-limit (V0 S j q +ℤ pos H) (plus-le (V0 S j q) H n hv) in
+        let left = fits-u (U0 S j p -ℤ pos H) (minus-le (U0 S j p) H m hu) in let right = fits-u (U0 S j p +ℤ pos H) (plus-le (U0 S j p) H m hu) in
+        let bottom = fits-v (V0 S j q -ℤ pos H) (minus-le (V0 S j q) H n hv) in let top = fits-v (V0 S j q +ℤ pos H) (plus-le (V0 S j q) H n hv) in
         record {
-          half = fits-limit (pos H) (omega arith);
-          points = λ x y i. let b = box-limited P u H r (pair x y) limited (in-box S j p q i) in (fits-limit x (b 0 (omega arith)), fits-limit y (b 1 (omega arith)));
-          centre = (fits-limit (U0 S j p) (omega arith), fits-limit (V0 S j q) (omega arith));
+          half = fits-u (pos H) (omega arith);
+          points = λ x y i. let b = box-limited P u H r (pair x y) limited (in-box S j p q i) in (fits-u x (b 0 (omega arith)), fits-v y (b 1 (omega arith)));
+          centre = (fits-u (U0 S j p) (omega arith), fits-v (V0 S j q) (omega arith));
           edges = ((left, bottom), (right, bottom), (left, top), (right, top));
           form = λ a b l. rw (G-is S j p q a b) (fits-weight (local P u H (a ∷ b ∷ [])) (local-size P u H r limited (a ∷ b ∷ []) (pair-index (S .d) (2 ^ (S .k + 1)) (A S) a b l)));
           bounds = (rw (lower-is S j p q mode) (fits-weight (Bounds.lower P mode u H) (lower-size P u H r limited mode)), rw (upper-is S j p q mode) (fits-weight (Bounds.upper P mode u H) (upper-size P u H r limited mode)));

@@ -18,12 +18,12 @@ use Rattle.algebra.proofs.Ring.{ring, _⊕_, _⊖_, _⊗_, ⊝_, #_, _≐_}
 use Rattle.algebra.proofs.Triangle.{triangle-mono}
 use Rattle.page.specs.Sheet.{A}
 use Rattle.page.specs.Scaled.{half-side, InCell}
-use Rattle.page.specs.Weight.{R, weight}
+use Rattle.page.specs.Weight.{Rx, Ry, weight}
 use Rattle.page.specs.Refusals.{outside-side, misplaced, point, refusal, to-check}
 use Rattle.page.specs.Facts.{SquareIsCell, OnlyZeros}
 use Rattle.page.proofs.Rows.{no-range-refusal, or-both, check-rows, rest}
 use Rattle.page.proofs.Cells.{inside-side, cells-make}
-use Rattle.page.proofs.Weights.{R-positive, member-triangle}
+use Rattle.page.proofs.Weights.{reach-positive, member-triangle}
 use Rattle.page.proofs.Facts.{accepted-by-check}
 
 -- ---- the square
@@ -90,14 +90,15 @@ only-zeros S r d k = (zeros, some)
 
     zeros : ((i j : ℕ) → i + j ≤ 8 → A S i j ≡ pos 0) → refusal (to-check S) ≡ 0
     zeros z =
-        let none : triangle (S .d) (λ i j. natAbs (A S i j) * R S ^ (i + j)) ≤ triangle (S .d) (λ i j. 0) = triangle-mono (S .d) (λ i j l. rw (z i j (rw d at l)) (omega arith)) in
+        let none : triangle (S .d) (λ i j. natAbs (A S i j) * Rx S ^ i * Ry S ^ j) ≤ triangle (S .d) (λ i j. 0) = triangle-mono (S .d) (λ i j l. rw (z i j (rw d at l)) (omega arith)) in
         let nothing : triangle (S .d) (λ i j. 0) ≡ 0 = sumℕ-zero (0 ⋯ (S .d)) (λ i m. sumℕ-zero (0 ⋯ (S .d - i)) (λ j n. refl)) in
-        let w : triangle (S .d) (λ i j. natAbs (A S i j) * R S ^ (i + j)) ≡ 0 = omega arith in
+        let w : triangle (S .d) (λ i j. natAbs (A S i j) * Rx S ^ i * Ry S ^ j) ≡ 0 = omega arith in
         accepted-by-check S .0 (record { ranges = r; light = rw (w, Nat.mul-zero) (omega arith) })
 
     some : (i j : ℕ) → i + j ≤ 8 → (A S i j ≡ pos 0 → ⊥) → refusal (to-check S) ≡ 6
     some i j l n =
-        let m = member-triangle (S .d) (λ i j. natAbs (A S i j) * R S ^ (i + j)) i j (rw d l) in
-        let o : 1 ≤ natAbs (A S i j) * R S ^ (i + j) = Nat.mul-le-mul (Nat.pos-of-ne-zero (λ e. n (natAbs-zero (A S i j) e))) (Nat.one-le-pow (i + j) (R S) (R-positive S)) in
+        let m = member-triangle (S .d) (λ i j. natAbs (A S i j) * Rx S ^ i * Ry S ^ j) i j (rw d l) in
+        let one : 1 ≤ natAbs (A S i j) = Nat.pos-of-ne-zero (λ e. n (natAbs-zero (A S i j) e)) in
+        let o : 1 ≤ natAbs (A S i j) * Rx S ^ i * Ry S ^ j = Nat.mul-le-mul (Nat.mul-le-mul one (Nat.one-le-pow i (Rx S) (reach-positive (S .X) (S .s)))) (Nat.one-le-pow j (Ry S) (reach-positive (S .Y) (S .s))) in
         let b : 2 ^ 62 ≤ weight S = rw scale (Nat.le-trans (omega arith) (Nat.mul-le-mul-left (2 ^ 64) (Nat.le-trans o m))) in
         check-rows S ∙ rest _ (no-range-refusal S r) ∙ rw (le-leb (2 ^ 62) (weight S) b)

@@ -1,7 +1,7 @@
 -- The definitions at the page's numbers, computed: figures of single cells, small walks, and the edges of the refusal table. The starred figures stand in the crate `starred`, and few of them here.
 use mathlib.Core.Path.{_≡_, refl}
 use mathlib.Core.List.{[], _∷_}
-use Prim.Native.Nat.{ℕ}
+use Prim.Native.Nat.{ℕ, _^_}
 use native.Mathlib.Omega.{arith}
 use lib.IntN.{ℤ, pos, negsuc, pow, one}
 use lib.ListN.{replicate}
@@ -9,16 +9,17 @@ use Rattle.algebra.specs.Sum.{sum, sumℕ, run, span, _⋯_}
 use Rattle.algebra.specs.Binomial.{choose}
 use Rattle.algebra.specs.MinMax.{minℤ, maxℤ, largest}
 use Rattle.algebra.specs.Triangle.{row-start}
+use Rattle.algebra.specs.Digits.{digits}
 use Rattle.forms.specs.Bounds.{affine, centred}
 use Rattle.verdicts.specs.Judging.{judged}
 use Rattle.verdicts.specs.declared.Verdict.the-variants.{Above, Below, Open}
 use Rattle.page.specs.Sheet.{Sheet, A}
-use Rattle.page.specs.CheckedSheets.{square, P1, P4, P5, P7, P9, P10}
+use Rattle.page.specs.CheckedSheets.{square, P1, P4, P5, P7, P9, P10, far-along-x, far-along-y}
 use Rattle.page.specs.Scaled.{F, value-at, half-side, U0, V0, InCell}
 use Rattle.page.specs.LocalForm.{G}
 use Rattle.page.specs.Bounds.{lower, upper, bend, verdict}
 use Rattle.verdicts.specs.Walking.{colour, raster, visited, coloured, largest-bend}
-use Rattle.page.specs.Weight.{R, weight}
+use Rattle.page.specs.Weight.{reach, Rx, Ry, weight, spare}
 use Rattle.page.specs.Refusals.{to-check, at-point, in-cell, to-walk, table, first, refusal}
 
 -- one coefficient at the first of 45 places, and zeros
@@ -52,9 +53,14 @@ unfolding pow one sum sumℕ run span _⋯_ choose minℤ maxℤ row-start judge
 verdicts = (refl, refl, refl)
 
 -- ---- weight
-weights : (R P1 ≡ 1) × (weight P1 ≡ 144) × (R (square 0 (pos 0 ∷ []) (negsuc 7) 2 0) ≡ 8) × (R (square 0 (pos 0 ∷ []) (pos 5) 3 0) ≡ 13)
-unfolding sum sumℕ run span _⋯_ row-start weight
-weights = (refl, refl, refl, refl)
+weights : (reach (negsuc 7) 2 ≡ 8) × (reach (pos 5) 3 ≡ 13) × (Rx P1 ≡ 1) × (Ry P1 ≡ 1) × (weight P1 ≡ 144)
+unfolding sumℕ run span _⋯_ row-start weight
+weights = (refl, refl, refl, refl, refl)
+
+-- far out along one axis (#102): each coordinate has a limit of its own
+far : (Rx far-along-y ≡ 1) × (Ry far-along-y ≡ 1_025) × (weight far-along-y ≡ 2 ^ 32) × (spare far-along-y ≡ 29) × (weight far-along-x ≡ 2 ^ 32)
+unfolding sumℕ run span _⋯_ row-start digits weight
+far = (refl, refl, refl, refl, refl)
 
 -- ---- the refusal table: each row at its edge, and the first of several
 refusals : (refusal (to-check (P10 63)) ≡ 0) × (refusal (to-check (P10 64)) ≡ 6) × (refusal (to-check (constant (pos 0) 8 7)) ≡ 0) × (refusal (to-check (constant (pos 1) 8 7)) ≡ 6)

@@ -10,47 +10,53 @@ use Rattle.algebra.specs.Triangle.{triangle}
 use Rattle.algebra.proofs.Absolute.{natAbs-*ℤ}
 use Rattle.algebra.proofs.Sum.{sumℕ-member}
 use Rattle.algebra.proofs.Run.{member-⋯}
-use Rattle.forms.specs.Plane.{plane}
+use Rattle.forms.specs.Plane.{pair, plane}
 use Rattle.forms.specs.Weight.{weight as plane-weight}
-use Rattle.forms.proofs.Plane.{weight-plane}
+use Rattle.forms.proofs.Plane.{weight-axes}
 use Rattle.forms.proofs.Turns.{scaled-weight}
 use Rattle.page.specs.Sheet.{Sheet, A}
 use Rattle.page.specs.Scaled.{scaled}
-use Rattle.page.specs.Weight.{R, weight, Accepted}
+use Rattle.page.specs.Weight.{reach, Rx, Ry, weight, Accepted}
 
--- ---- R is at least 1: Z and Z + n, with n at least 1, are not both 0
+-- ---- each limit is at least 1: Z and Z + 2^s are not both 0
 one-of : (z : ℤ) (n : ℕ) → 1 ≤ n → 1 ≤ max (natAbs z) (natAbs (z +ℤ pos n))
 one-of (pos m) n h = omega arith
 one-of (negsuc m) n h = omega arith
 
-pub R-positive : (S : Sheet) → 1 ≤ R S
-R-positive S = let h = one-of (S .X) (2 ^ S .s) (pow-pos (S .s)) in omega arith
+pub reach-positive : (z : ℤ) (s : ℕ) → 1 ≤ reach z s
+reach-positive z s = one-of z (2 ^ s) (pow-pos s)
 
--- ---- the weight is that of the polynomial in the plane, with the limit R for both variables
-pub weight-is : (S : Sheet) → weight S ≡ plane-weight (plane (S .d) (2 ^ (S .k + 1)) (A S)) (λ v. R S)
+-- and so it is in units of 1/2^(k+1)
+pub limit-positive : (k : ℕ) (z : ℤ) (s : ℕ) → 1 ≤ 2 ^ (k + 1) * reach z s
+limit-positive k z s = Nat.mul-le-mul (pow-pos (k + 1)) (reach-positive z s)
+
+-- ---- the weight is that of the polynomial in the plane, with the limits Rx and Ry for its variables
+abbrev pub limits : Sheet → ℕ → ℕ
+limits S = pair (Rx S) (Ry S)
+
+pub weight-is : (S : Sheet) → weight S ≡ plane-weight (plane (S .d) (2 ^ (S .k + 1)) (A S)) (limits S)
 unfolding weight
-weight-is S = sym (weight-plane (S .d) (S .k) (A S) (R S))
+weight-is S = sym (weight-axes (S .d) (S .k) (A S) (limits S))
 
--- and the load of the scaled coefficients at 2^(k+1) R, which no point of the square is past
-pub scaled-load : (S : Sheet) → triangle (S .d) (λ i j. natAbs (scaled S i j) * ((2 ^ (S .k + 1) * R S) ^ i * (2 ^ (S .k + 1) * R S) ^ j)) ≡ weight S
-scaled-load S = scaled-weight (S .d) (S .k) (A S) (λ v. R S) ∙ sym (weight-is S)
+-- and the load of the scaled coefficients at 2^(k+1) Rx and 2^(k+1) Ry, which no point of the square is past
+pub scaled-load : (S : Sheet) → triangle (S .d) (λ i j. natAbs (scaled S i j) * ((2 ^ (S .k + 1) * Rx S) ^ i * (2 ^ (S .k + 1) * Ry S) ^ j)) ≡ weight S
+scaled-load S = scaled-weight (S .d) (S .k) (A S) (limits S) ∙ sym (weight-is S)
 
 -- ---- each scaled coefficient is at most the weight, and so below 2^62 on an accepted sheet
 -- one term of a triangle is at most the whole
 pub member-triangle : (d : ℕ) (g : ℕ → ℕ → ℕ) (i j : ℕ) → i + j ≤ d → g i j ≤ triangle d g
 member-triangle d g i j h = Nat.le-trans (sumℕ-member (g i) (member-⋯ 0 (d - i) j (omega arith) (omega arith))) (sumℕ-member (λ i. sumℕ (0 ⋯ (d - i)) (g i)) (member-⋯ 0 d i (omega arith) (omega arith)))
 
--- a factor of powers of m, at least 1, makes nothing smaller
-times-powers : (n m i j : ℕ) → 1 ≤ m → n ≤ n * (m ^ i * m ^ j)
-times-powers n m i j h =
-    let p = Nat.mul-le-mul (Nat.one-le-pow i m h) (Nat.one-le-pow j m h) in let q = Nat.mul-le-mul-left n p in omega arith
+-- a factor of powers of m and n, both at least 1, makes nothing smaller
+times-powers : (c m n i j : ℕ) → 1 ≤ m → 1 ≤ n → c ≤ c * (m ^ i * n ^ j)
+times-powers c m n i j h k =
+    let p = Nat.mul-le-mul (Nat.one-le-pow i m h) (Nat.one-le-pow j n k) in let q = Nat.mul-le-mul-left c p in omega arith
 
 -- the size of a scaled coefficient, as `scaled_row` asks for it
 pub place-light : {S : Sheet} → Accepted S → (i j : ℕ) → i + j ≤ S .d → natAbs (A S i j) * 2 ^ ((S .k + 1) * (S .d - i - j)) < 2 ^ 62
 place-light {S} a i j h =
-    let m = 2 ^ (S .k + 1) * R S in
-    let o : 1 ≤ m = Nat.mul-le-mul (pow-pos (S .k + 1)) (R-positive S) in
-    let p = member-triangle (S .d) (λ i j. natAbs (scaled S i j) * (m ^ i * m ^ j)) i j h in
-    let q = times-powers (natAbs (scaled S i j)) m i j o in
+    let m = 2 ^ (S .k + 1) * Rx S in let n = 2 ^ (S .k + 1) * Ry S in
+    let p = member-triangle (S .d) (λ i j. natAbs (scaled S i j) * (m ^ i * n ^ j)) i j h in
+    let q = times-powers (natAbs (scaled S i j)) m n i j (limit-positive (S .k) (S .X) (S .s)) (limit-positive (S .k) (S .Y) (S .s)) in
     let e = natAbs-*ℤ (A S i j) (pos (2 ^ ((S .k + 1) * (S .d - i - j)))) in
     let w = scaled-load S in omega arith

@@ -1,5 +1,5 @@
--- Checked sheets: the page's sheets P1 to P10, on which figures are computed, here and in the crates above. Y = X throughout. The starred figures stand in the crate `starred`.
-use mathlib.Core.List.{List, [], _∷_}
+-- Checked sheets: the page's sheets P1 to P10, on which figures are computed, here and in the crates above, with Y = X throughout, and a request's. The starred figures stand in the crate `starred`.
+use mathlib.Core.List.{List, [], _∷_, _++_}
 use Prim.Native.Nat.{ℕ}
 use lib.IntN.{ℤ, pos, negℤ}
 use lib.ListN.{replicate}
@@ -46,3 +46,10 @@ P9 = square 2 (pos 0 ∷ pos 0 ∷ pos 0 ∷ pos 0 ∷ pos 0 ∷ pos 1 ∷ []) (
 -- f constant, d 8, k 6, X 0, s 0: 63 is accepted, 64 is refused by 6
 abbrev pub P10 : ℕ → Sheet
 P10 n = square 8 (pos n ∷ replicate 44 (pos 0)) (pos 0) 0 6
+
+-- the sheet of #102, f = x⁴, d 4, k 7, X 0, Y 1,024, s 0; and f = y⁴ far out along x
+abbrev pub far-along-y : Sheet
+far-along-y = sheet-of 4 (replicate 14 (pos 0) ++ (pos 1 ∷ [])) (pos 0) (pos 1_024) 0 7
+
+abbrev pub far-along-x : Sheet
+far-along-x = sheet-of 4 (replicate 4 (pos 0) ++ (pos 1 ∷ replicate 10 (pos 0))) (pos 1_024) (pos 0) 0 7

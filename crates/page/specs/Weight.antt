@@ -1,17 +1,24 @@
 -- The weight and the spare places.
 use Prim.Native.Nat.{ℕ, _+_, _*_, _-_, _^_, _<_, max}
-use lib.IntN.{pos, _+ℤ_, natAbs}
+use lib.IntN.{ℤ, pos, _+ℤ_, natAbs}
 use Rattle.algebra.specs.Sum.{sumℕ, _⋯_}
 use Rattle.algebra.specs.Digits.{digits}
 use Rattle.page.specs.Sheet.{Sheet, A, InRange}
 
--- R is the largest of |X|, |X + 2^s|, |Y|, |Y + 2^s|
-abbrev pub R : Sheet → ℕ
-R S = max (max (natAbs (S .X)) (natAbs (S .X +ℤ pos (2 ^ S .s)))) (max (natAbs (S .Y)) (natAbs (S .Y +ℤ pos (2 ^ S .s))))
+-- the larger of |Z| and |Z + 2^s|
+abbrev pub reach : ℤ → ℕ → ℕ
+reach Z s = max (natAbs Z) (natAbs (Z +ℤ pos (2 ^ s)))
 
--- 2^((k+1)d) times the sum of |A(i,j)| · R^(i+j)
+-- Rx is the larger of |X| and |X + 2^s|, and Ry likewise of Y (#102)
+abbrev pub Rx : Sheet → ℕ
+Rx S = reach (S .X) (S .s)
+
+abbrev pub Ry : Sheet → ℕ
+Ry S = reach (S .Y) (S .s)
+
+-- 2^((k+1)d) times the sum of |A(i,j)| · Rx^i · Ry^j (#102)
 unfoldable pub weight : Sheet → ℕ
-weight S = 2 ^ ((S .k + 1) * S .d) * sumℕ (0 ⋯ (S .d)) (λ i. sumℕ (0 ⋯ (S .d - i)) (λ j. natAbs (A S i j) * R S ^ (i + j)))
+weight S = 2 ^ ((S .k + 1) * S .d) * sumℕ (0 ⋯ (S .d)) (λ i. sumℕ (0 ⋯ (S .d - i)) (λ j. natAbs (A S i j) * Rx S ^ i * Ry S ^ j))
 
 -- a sheet is accepted only if its weight is below 2^62
 pub record Accepted (S : Sheet) : Type 0 where

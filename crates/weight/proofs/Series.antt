@@ -4,7 +4,6 @@ use Prim.Native.Nat.{ℕ, suc, _+_, _*_, _-_, _^_, _≤_, _<_, min}
 use native.Mathlib.Nat as Nat
 use native.Mathlib.Numerals.{add-one}
 use native.Mathlib.Omega.{arith}
-use lib.Pow.{pow-add}
 use Rattle.algebra.specs.Sum.{sumℕ, span, _⋯_}
 use Rattle.algebra.specs.Triangle.{triangle}
 use Rattle.algebra.proofs.Ceiling.{ceil-+, ceil-*}
@@ -41,10 +40,10 @@ module _ {f : ℕ → ℕ} {r n : ℕ} where
   unfolding _⋯_
   adding-end {sum} {power} {k} h p = let e : k ≡ suc n = omega arith in p .added ∙ ap (λ m. min (sumℕ (span 0 m) (λ j. f j * r ^ j)) (2 ^ 62)) e
 
--- ---- rows of powers, each times its own power, are the triangle of powers
-shared : (a r i j : ℕ) → r ^ i * (a * r ^ j) ≡ a * r ^ (i + j)
-shared a r i j = Nat.mul-left-comm (r ^ i) a (r ^ j) ∙ ap (λ x. a * x) (sym (pow-add r i j))
+-- ---- rows of powers of ry, each times its own power of rx, are the triangle of both
+shared : (a p q : ℕ) → p * (a * q) ≡ a * p * q
+shared a p q = Nat.mul-left-comm p a q ∙ sym (Nat.mul-assoc a p q)
 
-pub rows-triangle : (f : ℕ → ℕ → ℕ) (r d : ℕ) → series (λ i. series (f i) r (d - i)) r d ≡ triangle d (λ i j. f i j * r ^ (i + j))
-rows-triangle f r d = sumℕ-cong (0 ⋯ d) (λ i m.
-    Nat.mul-comm (series (f i) r (d - i)) (r ^ i) ∙ *-sumℕ (r ^ i) (0 ⋯ (d - i)) (λ j. f i j * r ^ j) ∙ sumℕ-cong (0 ⋯ (d - i)) (λ j k. shared (f i j) r i j))
+pub rows-triangle : (f : ℕ → ℕ → ℕ) (rx ry d : ℕ) → series (λ i. series (f i) ry (d - i)) rx d ≡ triangle d (λ i j. f i j * rx ^ i * ry ^ j)
+rows-triangle f rx ry d = sumℕ-cong (0 ⋯ d) (λ i m.
+    Nat.mul-comm (series (f i) ry (d - i)) (rx ^ i) ∙ *-sumℕ (rx ^ i) (0 ⋯ (d - i)) (λ j. f i j * ry ^ j) ∙ sumℕ-cong (0 ⋯ (d - i)) (λ j k. shared (f i j) (rx ^ i) (ry ^ j)))

@@ -46,33 +46,33 @@ fn row_weight(coefficients: &[i32], first: usize, n: usize, r: u64) -> u64
     sum
 }
 
-// all rows: the sum of |A(i,j)| r^(i+j)
-fn sum_weight(d: usize, coefficients: &[i32], r: u64) -> u64
-    requires { ⌜ (d ≤ 8) × (length (now coefficients) ≡ (d + 1) * (d + 2) / 2) × (r ≤ 2 ^ 62) ⌝ }
-    ensures { λ w. ⌜ w ≡ min (triangle d (λ i j. natAbs (getD (now (coefficients .entry)) (place d i j) (pos 0)) * r ^ (i + j))) (2 ^ 62) ⌝ }
+// all rows: the sum of |A(i,j)| rx^i ry^j
+fn sum_weight(d: usize, coefficients: &[i32], rx: u64, ry: u64) -> u64
+    requires { ⌜ (d ≤ 8) × (length (now coefficients) ≡ (d + 1) * (d + 2) / 2) × (rx ≤ 2 ^ 62) × (ry ≤ 2 ^ 62) ⌝ }
+    ensures { λ w. ⌜ w ≡ min (triangle d (λ i j. natAbs (getD (now (coefficients .entry)) (place d i j) (pos 0)) * rx ^ i * ry ^ j)) (2 ^ 62) ⌝ }
 {
     let mut sum = 0;
     let mut scale = 1;
     let mut first = 0;
     let mut i = 0;
     while i <= d {
-        let row = numbers::capped_product(row_weight(coefficients, first, d - i, r), scale);
+        let row = numbers::capped_product(row_weight(coefficients, first, d - i, ry), scale);
         sum = numbers::capped_sum(sum, row);
-        scale = numbers::capped_product(scale, r);
+        scale = numbers::capped_product(scale, rx);
         first += d + 1 - i;
         i += 1;
     }
     sum
 }
 
-// 2^n times the sum of |A(i,j)| r^(i+j), but not above 2^62
-pub fn capped_weight(d: u32, coefficients: &[i32], r: u64, n: u32) -> u64
-    requires { ⌜ (d ≤ 8) × (length (now coefficients) ≡ (d + 1) * (d + 2) / 2) × (r ≤ 2 ^ 62) ⌝ }
-    ensures { λ w. ⌜ w ≡ min (2 ^ n * triangle d (λ i j. natAbs (getD (now (coefficients .entry)) (place d i j) (pos 0)) * r ^ (i + j))) (2 ^ 62) ⌝ }
+// 2^n times the sum of |A(i,j)| rx^i ry^j, but not above 2^62
+pub fn capped_weight(d: u32, coefficients: &[i32], rx: u64, ry: u64, n: u32) -> u64
+    requires { ⌜ (d ≤ 8) × (length (now coefficients) ≡ (d + 1) * (d + 2) / 2) × (rx ≤ 2 ^ 62) × (ry ≤ 2 ^ 62) ⌝ }
+    ensures { λ w. ⌜ w ≡ min (2 ^ n * triangle d (λ i j. natAbs (getD (now (coefficients .entry)) (place d i j) (pos 0)) * rx ^ i * ry ^ j)) (2 ^ 62) ⌝ }
 {
     numbers::capped_product(
         numbers::capped_power(n),
-        sum_weight(d as usize, coefficients, r),
+        sum_weight(d as usize, coefficients, rx, ry),
     )
 }
 

@@ -7,10 +7,10 @@ use Rattle.weight.proofs.sum_weight.Statement.{statement}
 use Rattle.weight.proofs.sum_weight.Tie as tie
 
 abbrev Inv-loop : tie.InvT-loop
-Inv-loop d coefficients r sum₀ scale₀ first₀ i₀ sum scale first i = Rows coefficients d r sum scale first i
+Inv-loop d coefficients rx ry sum₀ scale₀ first₀ i₀ sum scale first i = Rows coefficients d rx ry sum scale first i
 
 abbrev μ-loop : tie.MeasureT-loop
-μ-loop d coefficients r sum₀ scale₀ first₀ i₀ sum scale first i = d + 1 - i
+μ-loop d coefficients rx ry sum₀ scale₀ first₀ i₀ sum scale first i = d + 1 - i
 
 loop-holds : tie.Need-loop-holds Inv-loop μ-loop
 loop-holds c = rows-start
