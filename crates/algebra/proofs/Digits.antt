@@ -6,12 +6,14 @@ use native.Mathlib.Nat as Nat
 use native.Mathlib.Numerals.{add-one}
 use native.Mathlib.Decide.{decLe}
 use native.Mathlib.Omega.{arith}
+use borrow.Author.Tests.{le-leb}
 use lib.Count.{leadingZeros, leading-of-zero, leading-top}
 use lib.Dec.{leb, leb→le, nleb→lt}
 use lib.Pow.{pow-pos, pow-mono}
 use Rattle.algebra.specs.Sum.{sumℕ, span}
 use Rattle.algebra.specs.Digits.{digits}
 use Rattle.algebra.proofs.Choice.{choice}
+use Rattle.algebra.proofs.Sum.{sumℕ-mono}
 use Rattle.algebra.proofs.Run.{sumℕ-span-none, sumℕ-span-next}
 
 -- m is the length of n: the powers 2^i with i below m are those up to n
@@ -59,3 +61,9 @@ digits-spec n h i = rw (digits-length n h) (let s = has-length n h .2 in (
 -- ---- it makes 64 with the leading zeros
 pub digits-leading : (n : ℕ) → n < 2 ^ 64 → leadingZeros 64 n + digits n ≡ 64
 digits-leading n h = ap (λ x. leadingZeros 64 n + x) (digits-length n h) ∙ has-length n h .1
+
+-- ---- a larger number has no fewer
+pub digits-mono : {m n : ℕ} → m ≤ n → digits m ≤ digits n
+unfolding digits
+digits-mono {m} {n} h = sumℕ-mono (span 0 64) (λ i k. choice (λ x. x ≤ cond (leb (2 ^ i) n) 1 0) (leb (2 ^ i) m) 1 0
+    (λ t. let l : 2 ^ i ≤ n = omega (arith, leb→le) in rw (le-leb (2 ^ i) n l) (Nat.le-refl 1)) (λ t. omega arith))

@@ -26,7 +26,7 @@ use Rattle.page.specs.Sheet.{Sheet}
 use Rattle.page.specs.Scaled.{scaled, F, IsCell, half-side, U0, V0}
 use Rattle.page.specs.LocalForm.{G}
 use Rattle.page.specs.Weight.{Rx, Ry, Accepted}
-use Rattle.page.proofs.Weights.{limits, limit-positive, weight-is, scaled-load}
+use Rattle.page.proofs.Weights.{limits, scaled-positive, weight-is, scaled-load}
 use Rattle.page.proofs.Page.{polynomial, centre, G-is}
 use Rattle.page.proofs.Demand3.{limited}
 
@@ -76,7 +76,7 @@ module _ {S : Sheet} (a : Accepted S) {form : Form} (t : Tabled (S .d) (scaled S
         small = rw (t .degree) (a .ranges .degree);
         a = m;
         b = n;
-        positive = (limit-positive (S .k) (S .X) (S .s), limit-positive (S .k) (S .Y) (S .s));
+        positive = scaled-positive S;
         wide = (p, q);
         light = rw (triangle-held t (λ i j z. natAbs z * (m ^ i * n ^ j)), scaled-load S) (let l = a .light in omega arith);
       }

@@ -23,7 +23,7 @@ use Rattle.page.specs.Refusals.{outside-side, misplaced, point, refusal,
 use Rattle.page.specs.Facts.{SquareIsCell, OnlyZeros}
 use Rattle.page.proofs.Rows.{no-range-refusal, or-both, check-rows, rest}
 use Rattle.page.proofs.Cells.{inside-side, cells-make}
-use Rattle.page.proofs.Weights.{reach-positive, member-triangle}
+use Rattle.page.proofs.Weights.{limits-positive, member-triangle}
 use Rattle.page.proofs.Facts.{accepted-by-check}
 
 -- ---- the square
@@ -99,6 +99,6 @@ only-zeros S r d k = (zeros, some)
     some i j l n =
         let m = member-triangle (S .d) (λ i j. natAbs (A S i j) * Rx S ^ i * Ry S ^ j) i j (rw d l) in
         let one : 1 ≤ natAbs (A S i j) = Nat.pos-of-ne-zero (λ e. n (natAbs-zero (A S i j) e)) in
-        let o : 1 ≤ natAbs (A S i j) * Rx S ^ i * Ry S ^ j = Nat.mul-le-mul (Nat.mul-le-mul one (Nat.one-le-pow i (Rx S) (reach-positive (S .X) (S .s)))) (Nat.one-le-pow j (Ry S) (reach-positive (S .Y) (S .s))) in
+        let o : 1 ≤ natAbs (A S i j) * Rx S ^ i * Ry S ^ j = Nat.mul-le-mul (Nat.mul-le-mul one (Nat.one-le-pow i (Rx S) (limits-positive S .0))) (Nat.one-le-pow j (Ry S) (limits-positive S .1)) in
         let b : 2 ^ 62 ≤ weight S = rw scale (Nat.le-trans (omega arith) (Nat.mul-le-mul-left (2 ^ 64) (Nat.le-trans o m))) in
         check-rows S ∙ rest _ (no-range-refusal S r) ∙ rw (le-leb (2 ^ 62) (weight S) b)

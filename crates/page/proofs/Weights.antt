@@ -16,19 +16,19 @@ use Rattle.forms.proofs.Plane.{weight-axes}
 use Rattle.forms.proofs.Turns.{scaled-weight}
 use Rattle.page.specs.Sheet.{Sheet, A}
 use Rattle.page.specs.Scaled.{scaled}
-use Rattle.page.specs.Weight.{reach, Rx, Ry, weight, Accepted}
+use Rattle.page.specs.Weight.{Rx, Ry, weight, Accepted}
 
 -- ---- each limit is at least 1: Z and Z + 2^s are not both 0
 one-of : (z : ℤ) (n : ℕ) → 1 ≤ n → 1 ≤ max (natAbs z) (natAbs (z +ℤ pos n))
 one-of (pos m) n h = omega arith
 one-of (negsuc m) n h = omega arith
 
-pub reach-positive : (z : ℤ) (s : ℕ) → 1 ≤ reach z s
-reach-positive z s = one-of z (2 ^ s) (pow-pos s)
+pub limits-positive : (S : Sheet) → (1 ≤ Rx S) × (1 ≤ Ry S)
+limits-positive S = (let h = one-of (S .X) (2 ^ S .s) (pow-pos (S .s)) in omega arith, let h = one-of (S .Y) (2 ^ S .s) (pow-pos (S .s)) in omega arith)
 
--- and so it is in units of 1/2^(k+1)
-pub limit-positive : (k : ℕ) (z : ℤ) (s : ℕ) → 1 ≤ 2 ^ (k + 1) * reach z s
-limit-positive k z s = Nat.mul-le-mul (pow-pos (k + 1)) (reach-positive z s)
+-- and so is each in units of 1/2^(k+1)
+pub scaled-positive : (S : Sheet) → (1 ≤ 2 ^ (S .k + 1) * Rx S) × (1 ≤ 2 ^ (S .k + 1) * Ry S)
+scaled-positive S = let h = limits-positive S in (Nat.mul-le-mul (pow-pos (S .k + 1)) (h .0), Nat.mul-le-mul (pow-pos (S .k + 1)) (h .1))
 
 -- ---- the weight is that of the polynomial in the plane, with the limits Rx and Ry for its variables
 abbrev pub limits : Sheet → ℕ → ℕ
@@ -57,6 +57,6 @@ pub place-light : {S : Sheet} → Accepted S → (i j : ℕ) → i + j ≤ S .d 
 place-light {S} a i j h =
     let m = 2 ^ (S .k + 1) * Rx S in let n = 2 ^ (S .k + 1) * Ry S in
     let p = member-triangle (S .d) (λ i j. natAbs (scaled S i j) * (m ^ i * n ^ j)) i j h in
-    let q = times-powers (natAbs (scaled S i j)) m n i j (limit-positive (S .k) (S .X) (S .s)) (limit-positive (S .k) (S .Y) (S .s)) in
+    let q = times-powers (natAbs (scaled S i j)) m n i j (scaled-positive S .0) (scaled-positive S .1) in
     let e = natAbs-*ℤ (A S i j) (pos (2 ^ ((S .k + 1) * (S .d - i - j)))) in
     let w = scaled-load S in omega arith

@@ -41,7 +41,8 @@ reach-small z {s} h k e = let p : 2 ^ s ≤ 2 ^ 10 = pow-mono h in let t = natAb
 capped-weight-requires : tie.Need-capped-weight-requires
 capped-weight-requires c κs =
     let s = c .before .before in let a = s .args in
-    (s .pre .degree, s .pre .counted, reach-small (a .x) (s .pre .side) (s .pre .corner-x) (rx-is (c .before)), reach-small (a .y) (s .pre .side) (s .pre .corner-y) (ry-is c))
+    let x = reach-small (a .x) (s .pre .side) (s .pre .corner-x) (rx-is (c .before)) in let y = reach-small (a .y) (s .pre .side) (s .pre .corner-y) (ry-is c) in
+    (s .pre .degree, s .pre .counted, omega arith, omega arith)
 
 returns : tie.Need-returns
 unfolding weight

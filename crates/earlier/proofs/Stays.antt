@@ -1,0 +1,129 @@
+-- Request #102: the weight by axis is at most the old one, so nothing but 6 gives way, and the answers stay.
+use mathlib.Core.Path.{_≡_, refl, sym, _∙_, ap}
+use mathlib.Core.Bool.{Bool, true, false, cond}
+use mathlib.Core.List.{List, [], _∷_, _++_}
+use Prim.Native.Nat.{ℕ, zero, suc, _^_, _≤_}
+use native.Mathlib.Nat as Nat
+use native.Mathlib.Omega.{arith}
+use borrow.Author.Tests.{leb-false, lt-leb, eqb-true, eqb-false}
+use lib.Dec.{leb, ltb, eqb}
+use lib.ListN.{length, take, drop}
+use Rattle.algebra.specs.Sum.{sumℕ, run, span, _⋯_}
+use Rattle.algebra.specs.Triangle.{row-start}
+use Rattle.algebra.specs.Digits.{digits}
+use Rattle.algebra.proofs.Digits.{digits-mono}
+use Rattle.forms.specs.Weight.{weight as plane-weight}
+use Rattle.forms.proofs.Plane.{both, weight-plane}
+use Rattle.forms.proofs.Size.{weight-mono}
+use Rattle.page.specs.Sheet.{Sheet}
+use Rattle.page.specs.Weight.{weight, spare}
+use Rattle.page.specs.Refusals.{Input, Row, _when_, table, first, refusal, unless, to-check, at-point, in-cell, to-walk}
+use Rattle.page.specs.SheetText.{lines, Text, bad-line, well-formed, text-of, to-read, refused, outcome-of, outcome}
+use Rattle.page.specs.ListingText.{text-after, written-text}
+use Rattle.page.specs.ReadFacts.{number-of}
+use Rattle.page.proofs.Page.{polynomial}
+use Rattle.page.proofs.Weights.{limits, weight-is}
+use Rattle.page.proofs.Rows.{unless-number}
+use Rattle.probe.specs.Answers.{weighed, checked, valued, bounded}
+use Rattle.walk.specs.Answers.{tallied, rastered, listed, recorded}
+use Rattle.reading.specs.Answers.{reading-of, reading}
+use Rattle.reply.proofs.Promises.{text-left}
+use Rattle.earlier.specs.Weight.{old-R, old-weight, old-spare, old-refusal}
+use Rattle.earlier.specs.Answers.{old-outcome-of, old-outcome}
+use Rattle.earlier.specs.Stays.{NoHeavier, SameOnDiagonal, NumberStays, SixWasSix, Lighter, CheckStays, ValueStays, BoundsStays, RasterStays, ListingStays, ReadStays, AnswerStays, RefusedForNothing}
+
+-- ---- the weights
+-- the old one is that of the polynomial in the plane, with R for both variables
+old-weight-is : (S : Sheet) → old-weight S ≡ plane-weight (polynomial S) (λ v. old-R S)
+unfolding old-weight
+old-weight-is S = sym (weight-plane (S .d) (S .k) _ (old-R S))
+
+pub no-heavier : NoHeavier
+no-heavier S = rw (weight-is S, old-weight-is S) (weight-mono (polynomial S) (limits S) (λ v. old-R S) (both (λ v. limits S v ≤ old-R S) (omega arith) (omega arith)))
+
+pub same-on-diagonal : SameOnDiagonal
+same-on-diagonal S e = Nat.le-antisymm (no-heavier S)
+    (rw (weight-is S, old-weight-is S) (weight-mono (polynomial S) (λ v. old-R S) (limits S) (both (λ v. old-R S ≤ limits S v) (rw e (omega arith)) (rw e (omega arith)))))
+
+-- ---- the table
+-- a row 6, of which the condition is h or o, after other rows and before more
+row-before : (b : Bool) (n : ℕ) {x y : ℕ} → ((y ≡ 6 → ⊥) → x ≡ y) → (cond b n y ≡ 6 → ⊥) → cond b n x ≡ cond b n y
+row-before true n s m = refl
+row-before false n s m = s m
+
+among-rows : (before : List Row) (h o : Bool) (after : List Row) → (o ≡ false → h ≡ false) → (first (before ++ ((6 when o) ∷ after)) ≡ 6 → ⊥) →
+    first (before ++ ((6 when h) ∷ after)) ≡ first (before ++ ((6 when o) ∷ after))
+unfolding first
+among-rows [] h true after i n = absurd (n refl)
+among-rows [] h false after i n = rw (i refl)
+among-rows (r ∷ rs) h o after i n = row-before (r .holds) (r .number) (among-rows rs h o after i) n
+
+pub number-stays : NumberStays
+unfolding table
+number-stays c n =
+    let S = c .sheet in
+    let lighter : leb (2 ^ 62) (old-weight S) ≡ false → leb (2 ^ 62) (weight S) ≡ false = λ e. let l = leb-false (2 ^ 62) (old-weight S) e in let w = no-heavier S in lt-leb (2 ^ 62) (weight S) (omega arith) in
+    among-rows (take 5 (table c)) (leb (2 ^ 62) (weight S)) (leb (2 ^ 62) (old-weight S)) (drop 6 (table c)) lighter n
+
+pub six-was-six : SixWasSix
+six-was-six c e = by-test (eqb (old-refusal c) 6) refl
+  where
+    by-test : (b : Bool) → eqb (old-refusal c) 6 ≡ b → old-refusal c ≡ 6
+    by-test true t = eqb-true (old-refusal c) 6 t
+    by-test false t = let n = eqb-false (old-refusal c) 6 t in absurd (n (sym (number-stays c n) ∙ e))
+
+-- ---- the calls
+-- an answer by the old number is the answer
+module _ (c : Input) (n : old-refusal c ≡ 6 → ⊥) where
+  pub unless-stays : {X : Type 0} (refuses : ℕ → X) (values : X) → unless (refusal c) refuses values ≡ unless (old-refusal c) refuses values
+  unless-stays refuses values = ap (λ m. unless m refuses values) (number-stays c n)
+
+-- zeros beside a number are as light as they were
+lighter : (S : Sheet) (m : ℕ) →
+    Lighter (unless m (λ n. record { number = n; weight = 0; spare = 0 }) (record { number = 0; weight = weight S; spare = spare S }))
+    (unless m (λ n. record { number = n; weight = 0; spare = 0 }) (record { number = 0; weight = old-weight S; spare = old-spare S }))
+lighter S zero = record { number = refl; weight = no-heavier S; spare = let h = digits-mono (no-heavier S) in omega arith }
+lighter S (suc m) = record { number = refl; weight = Nat.le-refl 0; spare = Nat.le-refl 0 }
+
+pub check-stays : CheckStays
+unfolding weighed
+check-stays S r h n = rw (h .1, unless-stays (to-check S) n) (lighter S (old-refusal (to-check S)))
+
+pub value-stays : ValueStays
+unfolding valued
+value-stays S u v r h n = h .0 ∙ unless-stays (at-point S u v) n _ _
+
+pub bounds-stays : BoundsStays
+unfolding bounded
+bounds-stays S mode j p q r h n = h .0 ∙ unless-stays (in-cell S mode j p q) n _ _
+
+pub raster-stays : RasterStays
+unfolding tallied rastered
+raster-stays S mode old r now h n = (h .0 ∙ unless-stays (to-walk S mode _) n _ _, h .2 ∙ unless-stays (to-walk S mode _) n _ _)
+
+pub listing-stays : ListingStays
+unfolding listed recorded
+listing-stays S mode old r now h n = (h .0 ∙ unless-stays (to-walk S mode _) n _ _, h .2 ∙ unless-stays (to-walk S mode _) n _ _)
+
+-- ---- texts
+outcome-of-stays : (long : Bool) (t : Text) → (number-of (cond long (refused 11 0) (old-outcome-of t)) ≡ 6 → ⊥) → cond long (refused 11 0) (outcome-of t) ≡ cond long (refused 11 0) (old-outcome-of t)
+outcome-of-stays true t n = refl
+outcome-of-stays false (bad-line m) n = refl
+outcome-of-stays false (well-formed w) n = unless-stays (to-read w) (λ e. n (unless-number number-of (old-refusal (to-read w)) (λ m. refl) refl refl ∙ e)) _ _
+
+outcome-stays : (text : List ℕ) → (number-of (old-outcome text) ≡ 6 → ⊥) → outcome text ≡ old-outcome text
+unfolding outcome
+outcome-stays text n = outcome-of-stays (ltb 8_192 (length text)) (text-of (lines text)) n
+
+pub read-stays : ReadStays
+unfolding reading
+read-stays text r h n = h ∙ ap reading-of (outcome-stays text n)
+
+pub answer-stays : AnswerStays
+unfolding written-text
+answer-stays text old r now h l n = text-left text old r now h l ∙ ap text-after (outcome-stays text n)
+
+-- ---- the request's sheet
+pub refused-for-nothing : RefusedForNothing
+unfolding sumℕ run span _⋯_ row-start digits weight old-weight table first checked
+refused-for-nothing = (refl, refl)
