@@ -8,9 +8,6 @@ use native.Mathlib.Omega.{arith}
 use borrow.Author.Tests.{leb-false, lt-leb, eqb-true, eqb-false}
 use lib.Dec.{leb, ltb, eqb}
 use lib.ListN.{length, take, drop}
-use Rattle.algebra.specs.Sum.{sumℕ, run, span, _⋯_}
-use Rattle.algebra.specs.Triangle.{row-start}
-use Rattle.algebra.specs.Digits.{digits}
 use Rattle.algebra.proofs.Digits.{digits-mono}
 use Rattle.forms.specs.Weight.{weight as plane-weight}
 use Rattle.forms.proofs.Plane.{both, weight-plane}
@@ -24,13 +21,13 @@ use Rattle.page.specs.ReadFacts.{number-of}
 use Rattle.page.proofs.Page.{polynomial}
 use Rattle.page.proofs.Weights.{limits, weight-is}
 use Rattle.page.proofs.Rows.{unless-number}
-use Rattle.probe.specs.Answers.{weighed, checked, valued, bounded}
+use Rattle.probe.specs.Answers.{weighed, valued, bounded}
 use Rattle.walk.specs.Answers.{tallied, rastered, listed, recorded}
 use Rattle.reading.specs.Answers.{reading-of, reading}
 use Rattle.reply.proofs.Promises.{text-left}
 use Rattle.earlier.specs.Weight.{old-R, old-weight, old-spare, old-refusal}
 use Rattle.earlier.specs.Answers.{old-outcome-of, old-outcome}
-use Rattle.earlier.specs.Stays.{NoHeavier, SameOnDiagonal, NumberStays, SixWasSix, Lighter, CheckStays, ValueStays, BoundsStays, RasterStays, ListingStays, ReadStays, AnswerStays, RefusedForNothing}
+use Rattle.earlier.specs.Stays.{NoHeavier, SameOnDiagonal, NumberStays, SixWasSix, Lighter, CheckStays, ValueStays, BoundsStays, RasterStays, ListingStays, ReadStays, AnswerStays}
 
 -- ---- the weights
 -- the old one is that of the polynomial in the plane, with R for both variables
@@ -122,8 +119,3 @@ read-stays text r h n = h ∙ ap reading-of (outcome-stays text n)
 pub answer-stays : AnswerStays
 unfolding written-text
 answer-stays text old r now h l n = text-left text old r now h l ∙ ap text-after (outcome-stays text n)
-
--- ---- the request's sheet
-pub refused-for-nothing : RefusedForNothing
-unfolding sumℕ run span _⋯_ row-start digits weight old-weight table first checked
-refused-for-nothing = (refl, refl)
