@@ -36,24 +36,24 @@ struct sheet {
     int32_t coefficients[COUNT];
 };
 
-static uint64_t reach(int32_t z, uint32_t s) { return larger(size(z), size(z + power(s))); }
+static uint64_t axis_limit(int32_t z, uint32_t s) { return larger(size(z), size(z + power(s))); }
 
-static uint64_t row_weight(const int32_t *row, uint32_t n, uint64_t r) {
+static uint64_t row_weight(const int32_t *row, uint32_t n, uint64_t ry) {
     uint64_t sum = 0, scale = 1;
     for (uint32_t j = 0; j <= n; j++) {
         sum = capped_sum(sum, capped_product(size(row[j]), scale));
-        scale = capped_product(scale, r);
+        scale = capped_product(scale, ry);
     }
     return sum;
 }
 
 static uint64_t capped_weight(const struct sheet *sheet) {
-    uint64_t r = larger(reach(sheet->x, sheet->s), reach(sheet->y, sheet->s)), sum = 0, scale = 1;
+    uint64_t rx = axis_limit(sheet->x, sheet->s), ry = axis_limit(sheet->y, sheet->s), sum = 0, scale = 1;
     const int32_t *row = sheet->coefficients;
     for (uint32_t i = 0; i <= sheet->d; i++) {
         uint32_t n = sheet->d - i;
-        sum = capped_sum(sum, capped_product(row_weight(row, n, r), scale));
-        scale = capped_product(scale, r);
+        sum = capped_sum(sum, capped_product(row_weight(row, n, ry), scale));
+        scale = capped_product(scale, rx);
         row += n + 1;
     }
     return capped_product(capped_power((sheet->k + 1) * sheet->d), sum);

@@ -3,6 +3,7 @@
 A case is the name of a call and what the call is given, in the order of tests/second.py's functions; for the place that is lent to raster and
 listing stand its number of entries, a kind of content and a seed, from which `filled` makes what the entries hold before the call. The random
 cases are biased so that sheets of every degree and depth are accepted, and every refusal is given, alone and where others would hold after it.
+tests/case_sheets.py makes their sheets.
 """
 import collections
 import random
@@ -10,6 +11,7 @@ import struct
 
 import second
 import second_walk
+from case_sheets import EDGE, LEAST31, MOST31, Sheet, accepted, any_far_out, ends, every_far_out, heavier, heavy, near
 
 # the calls that speak of one sheet, point or cell, and those that walk and are lent a place
 SINGLE = ("check", "value", "bounds")
@@ -25,9 +27,7 @@ REFUSALS = {
 }
 # those that a raster and a listing of one sheet in one mode share: all but that of the place
 SHARED = (1, 2, 3, 4, 5, 6)
-MOST32, MOST31, MOST63 = 2 ** 32 - 1, 2 ** 31 - 1, 2 ** 63 - 1
-LEAST31, LEAST63 = -2 ** 31, -2 ** 63
-EDGE = 1_048_576
+MOST32, MOST63, LEAST63 = 2 ** 32 - 1, 2 ** 63 - 1, -2 ** 63
 # the most coefficients that a case can hand over, and the most entries of a place
 COUNT = 64
 ENTRIES = 4 ** 7 + 32
@@ -37,7 +37,6 @@ CONTENTS = ("all 0", "all 255", "written", "random", "unwritten")
 # how often each depth is walked: the deep ones are slow
 DEPTHS = (0,) * 3 + (1,) * 6 + (2,) * 10 + (3,) * 12 + (4,) * 10 + (5,) * 5 + (6,) * 3 + (7,) * 2
 
-Sheet = collections.namedtuple("Sheet", "d coefficients X Y s k")
 # a sheet, and all that some call takes beside it
 Given = collections.namedtuple("Given", "sheet U V mode j p q entries")
 
@@ -45,6 +44,12 @@ Given = collections.namedtuple("Given", "sheet U V mode j p q entries")
 def arguments(call, g):
     walk = (g.mode, g.entries)
     return tuple(g.sheet) + {"check": (), "value": (g.U, g.V), "bounds": (g.mode, g.j, g.p, g.q), "raster": walk, "listing": walk}[call]
+
+
+def walk_of(args):
+    """What a raster and a listing of one walk are both given: the sheet and the mode."""
+    d, coefficients, *rest, _ = args
+    return d, tuple(coefficients), *rest
 
 
 # ---- what a place holds
@@ -86,87 +91,7 @@ def with_places(rng, cases):
         yield call, (*args[:-1], (args[-1], rng.choice(CONTENTS), rng.getrandbits(32))) if call in WALKS else args
 
 
-# ---- random sheets that are accepted
-
-def places(rng, d):
-    """Some of the exponents up to degree d: the coefficients elsewhere are to be 0."""
-    true_degree = rng.choice((d, d, rng.randint(0, d)))
-    low = [(i, j) for i, j in second.exponents(d) if i + j <= true_degree]
-    return rng.choice((
-        low,
-        low,
-        rng.sample(low, rng.randint(1, len(low))),
-        rng.sample(low, min(3, len(low))),
-        [e for e in low if 0 in e],
-        [(i, j) for i, j in low if i % 2 == 0 and j % 2 == 0],
-    ))
-
-
-def square(rng, bits):
-    """A corner and a side: no coordinate has many more binary digits than asked."""
-    s = min(10, rng.choice((0, rng.randint(0, bits), bits)))
-    span = 2 ** rng.randint(0, bits)
-    ends = (-EDGE, EDGE) if bits == 20 else (-2 ** s, -(2 ** s // 2), 0)
-    X, Y = (rng.choice((rng.randint(-span, span), rng.randint(-span, span), rng.choice(ends))) for _ in "XY")
-    return X, Y, s
-
-
-def accepted(rng, d, k):
-    """A sheet of weight below 2^62."""
-    left = (2 ** 62 - 1) >> (k + 1) * d
-    wanted = places(rng, d)
-    # a coordinate of so many binary digits leaves room for each of the terms
-    fitting = max(0, min(20, (left.bit_length() - 6) // max(1, max(i + j for i, j in wanted))))
-    X, Y, s = square(rng, rng.choice((20, fitting, fitting, rng.randint(0, fitting), rng.randint(0, fitting))))
-    R, named, greedy = second.limit(X, Y, s), {}, rng.random() < 0.25
-    for taken, (i, j) in enumerate(rng.sample(wanted, len(wanted))):
-        share = left if greedy else left // (len(wanted) - taken)
-        most = min(2 ** 31, share // R ** (i + j))
-        size = min(most, rng.choice((9, 2 ** rng.randint(0, 31), most)))
-        size = rng.choice((size, rng.randint(0, size)))
-        named[i, j] = -size if size > MOST31 or rng.random() < 0.5 else size
-        left -= size * R ** (i + j)
-    return Sheet(d, second.terms(d, named), X, Y, s, k)
-
-
-def near(rng, sheet):
-    """The sheet with another constant term, by which the curve passes near a point of the square; as it is where that weighs too much."""
-    d, coefficients, X, Y, s, k = sheet
-    U, V = (rng.randint(*ends(sheet, corner)) for corner in (X, Y))
-    there = second.polynomial(d, [0] + coefficients[1:], k, U, V, 1) >> (k + 1) * d
-    other = sheet._replace(coefficients=[-there] + coefficients[1:])
-    return other if LEAST31 <= -there <= MOST31 and second.weight_of(*other) < 2 ** 62 else sheet
-
-
-def about_0(rng):
-    """A square with its middle at the origin."""
-    s = rng.randint(1, 10)
-    return -2 ** (s - 1), -2 ** (s - 1), s
-
-
-def heavy(rng, weight, depths=range(8), bent=False):
-    """A sheet whose weight is 2^62, or the last below it that its scale allows. Where it is to be bent its square has the middle at the origin: there
-    the weight is that of the local form, and the bend nearly all of it."""
-    while True:
-        d, k = rng.randint(2, 8), rng.choice(depths)
-        X, Y, s = about_0(rng) if bent else square(rng, rng.randint(0, 20))
-        R, named = second.limit(X, Y, s), {}
-        left = weight >> (k + 1) * d
-        for i, j in sorted(rng.sample(second.exponents(d), len(second.exponents(d))), key=lambda e: -sum(e)):
-            size = min(MOST31, left // R ** (i + j))
-            named[i, j] = rng.choice((-size, size))
-            left -= size * R ** (i + j)
-        if left == 0 and any(named.values()):
-            return Sheet(d, second.terms(d, named), X, Y, s, k)
-
-
 # ---- a point, a cell and a place of a sheet
-
-def ends(sheet, corner):
-    """The least and the greatest coordinate of the closed square; for a sheet that has none, of one like it."""
-    unit, s = 2 ** (min(sheet.k, 7) + 1), min(sheet.s, 10)
-    return unit * corner, unit * (corner + 2 ** s)
-
 
 def along(rng, low, high):
     return rng.choice((low, high, rng.randint(low, high), rng.randint(low, high)))
@@ -202,14 +127,6 @@ def other_count(rng, n):
     return [rng.choice((0, 1, LEAST31, rng.randint(-9, 9))) for _ in range(count)]
 
 
-def heavier(rng, sheet):
-    """Coefficients as large as they come, at some places."""
-    coefficients = list(sheet.coefficients)
-    for at in rng.sample(range(len(coefficients)), rng.randint(0, len(coefficients))):
-        coefficients[at] = rng.choice((LEAST31, MOST31, rng.randint(LEAST31, MOST31)))
-    return sheet._replace(coefficients=coefficients, k=rng.choice((sheet.k, 7)))
-
-
 def spoiled(rng, call, g, number):
     """The same case with one thing changed, mostly so that the refusal is given where nothing before it holds."""
     sheet = g.sheet
@@ -228,7 +145,10 @@ def spoiled(rng, call, g, number):
         need = 4 ** min(sheet.k, 7)
         return g._replace(entries=rng.choice((0, need - 1, need - 1, rng.randrange(need))))
     if number == 6:
-        return given(rng, heavy(rng, 2 ** 62)) if rng.random() < 0.3 else g._replace(sheet=heavier(rng, sheet))
+        kind = rng.random()
+        if kind < 0.3:
+            return given(rng, heavy(rng, 2 ** 62) if kind < 0.2 else any_far_out(rng, range(8), 2 ** 62))
+        return g._replace(sheet=heavier(rng, sheet))
     name = rng.choice("UV" if call == "value" else "jpq")
     if name in "UV":
         low, high = ends(sheet, sheet.X if name == "U" else sheet.Y)
@@ -237,10 +157,17 @@ def spoiled(rng, call, g, number):
     return g._replace(**{name: beyond(rng, min(sheet.k, MOST32 - 1) if name == "j" else 2 ** g.j - 1)})
 
 
+def random_sheet(rng, d, k, depths, bent=False):
+    """An accepted sheet: mostly of this degree and depth, and now and then one of any degree that is just below the limit, or far out, or both."""
+    kind = rng.random()
+    if kind < 0.04:
+        return heavy(rng, 2 ** 62 - 1, depths, bent)
+    return any_far_out(rng, depths, 2 ** 62 - 1 if kind < 0.05 else None) if kind < 0.08 else accepted(rng, d, k)
+
+
 def random_case(rng, call, d, k):
     """Most cases are of accepted sheets, the others are spoiled in one way or in several."""
-    g = given(rng, heavy(rng, 2 ** 62 - 1) if rng.random() < 0.04 else accepted(rng, d, k))
-    fate = rng.random()
+    g, fate = given(rng, random_sheet(rng, d, k, range(8))), rng.random()
     for number in rng.sample(REFUSALS[call], 1 if fate < 0.25 else rng.randint(2, 3) if fate < 0.35 else 0):
         g = spoiled(rng, call, g, number)
     return call, arguments(call, g)
@@ -248,7 +175,7 @@ def random_case(rng, call, d, k):
 
 def random_walks(rng, d, k):
     """A raster and a listing of one sheet in one mode, spoiled or not, each with a place of its own."""
-    sheet = heavy(rng, 2 ** 62 - 1, (k,), rng.random() < 0.5) if rng.random() < 0.04 else accepted(rng, d, k)
+    sheet = random_sheet(rng, d, k, (k,), rng.random() < 0.5)
     g, fate = given(rng, near(rng, sheet) if rng.random() < 0.85 else sheet), rng.random()
     for number in rng.sample(SHARED, 1 if fate < 0.2 else rng.randint(2, 3) if fate < 0.3 else 0):
         g = spoiled(rng, "raster", g, number)
@@ -329,6 +256,12 @@ def bent(rng):
         yield from ((call, tuple(sheet) + (mode, enough(rng, k))) for mode in (0, 1) for call in WALKS)
 
 
+def far_away(rng):
+    """Every call on sheets of every kind far out."""
+    for g in (given(rng, sheet) for sheet, _ in every_far_out(rng, range(4))):
+        yield from ((call, arguments(call, g)) for call in CALLS)
+
+
 def at_limits(rng):
     """Every call on the sheets at the limits. A sheet that is refused whatever the place is lent a short one, mostly."""
     for sheet in limits():
@@ -341,8 +274,8 @@ def at_limits(rng):
 
 def all_cases(seed, count):
     """The figures and the cells of the sheets of TALLIES, the limits, places of every kind, walks that hide an open cell, so many
-    random cases, a third as many walks, and sheets that bend as much as a sheet can."""
+    random cases, a third as many walks, sheets that bend as much as a sheet can, and sheets far out."""
     rng = random.Random(seed)
     cases = [*figures(), *tallied_cells(), *at_limits(rng), *lent(rng), *hidden(rng)]
-    cases += [*random_cases(rng, count), *random_pairs(rng, count // 6), *bent(rng)]
+    cases += [*random_cases(rng, count), *random_pairs(rng, count // 6), *bent(rng), *far_away(rng)]
     return [*with_places(random.Random(f"{seed} places"), cases)]

@@ -6,8 +6,9 @@
 The program target/bin/compare is run once, on all cases of tests/cases.py; crates/compare/src says how a case and an answer are written
 in bytes. A case says what a lent place holds beforehand. Every answer is compared with that of tests/second.py, with every entry of a lent
 place as it is afterwards; and the TALLIES there are counted by walking through the program's verdicts and bends. A run in which some refusal,
-verdict, degree or depth, some kind of place at some depth in some mode, some content of some kind of place, or some kind of largest bend in some
-mode, never came up fails, too, and so does one whose walks do not tell some wrong rule for the largest bend from the right one.
+verdict, degree or depth, some kind of place at some depth in some mode, some content of some kind of place, some kind of largest bend in some mode,
+or some kind of sheet by its weight, never came up fails, too (tests/coverage.py), and so does one whose walks do not tell some wrong rule for the
+largest bend from the right one (tests/demands.py), or whose sheets some wrong rule for the weight (tests/weights.py).
 
 Then the second program is held to the page. Demand 3 is tried on the accepted cells: at points with fractional coordinates in the closed
 cell, at its corners, and, where nothing bends, at the point where the value must be 0. Of every walk, the visited cells are those to which
@@ -21,7 +22,6 @@ and one that bends most. The raster and the listing of one walk have the same.
 """
 import argparse
 import ast
-import collections
 import pathlib
 import random
 import struct
@@ -30,25 +30,19 @@ import sys
 sys.dont_write_bytecode = True  # nothing is left in the tree
 import second
 import second_walk
-from cases import CALLS, CONTENTS, COUNT, EDGE, ENTRIES, REFUSALS, WALKS, all_cases, filled
-from demands import LARGEST_BENDS, bends_of, demand_3, kinds_of, largest_bend_fault, untold
+import weights
+from cases import CALLS, COUNT, ENTRIES, WALKS, all_cases, filled, walk_of
+from coverage import VERDICTS, tally
+from demands import bends_of, demand_3, largest_bend_fault, untold
 from program import BUILT, code, number, written_by
 
 PROGRAM = BUILT / "compare"
-VERDICTS = {1: "above", 2: "below", 3: "open"}
+NAMES = dict(enumerate(VERDICTS, 1))
 # how many numbers each call answers, beside a place
 LENGTHS = {"check": 3, "value": 2, "bounds": 5, "raster": 4, "listing": 5}
 # the bytes of an entry of a lent place: how many, and how they are packed
 WIDTHS = {"raster": 1, "listing": 4}
 PACKED = {"raster": "B", "listing": "I"}
-# the kinds of place: the short ones are refused by 7, and a place of no entry is the only short one at depth 0
-KINDS = {
-    "no entry": 7,
-    "one entry missing": 7,
-    "several entries missing": 7,
-    "just long enough": 0,
-    "longer": 0,
-}
 SHOWN = 5
 
 
@@ -86,7 +80,7 @@ def answer(call, words):
     if call != "bounds":
         return 0, *values[:used]
     verdict, lower, upper, bend = values
-    return 0, VERDICTS.get(verdict), number(lower, 64), number(upper, 64), bend
+    return 0, NAMES.get(verdict), number(lower, 64), number(upper, 64), bend
 
 
 def entries_of(call, args):
@@ -121,12 +115,6 @@ def run(program, cases):
 def second_answer(call, args):
     """What the second program answers, where its lent place holds the same."""
     return getattr(second, call)(*args[:-1], filled(call, *args[-1])) if call in WALKS else getattr(second, call)(*args)
-
-
-def walk_of(args):
-    """What a raster and a listing of one walk are both given: the sheet and the mode."""
-    d, coefficients, *rest, _ = args
-    return d, tuple(coefficients), *rest
 
 
 def second_answers(cases):
@@ -171,118 +159,10 @@ def faults_of_walks(faults):
     return [f"the second program's walk is wrong on --case \"{shown(*case)}\": {fault}" for case, fault in faults]
 
 
-def met(call, args, answered, walks):
-    """The things that a case shows, of those that every run must show."""
-    refusal, *values = answered
-    d, coefficients, X, Y, s, k, *rest = args
-    if refusal in (0, 6):
-        weight = second.weight_of(d, coefficients, X, Y, s, k)
-        short = second.LIMIT - weight
-        if short == 0 or refusal == 0 and weight > 0 and short <= 2 ** ((k + 1) * d):
-            yield call, "weight at the limit" if short == 0 else "weight just below the limit"
-    yield (call, "refused by", refusal) if refusal else (call, "accepted")
-    if call in WALKS:
-        yield from met_of_place(call, k, rest[0], *args[-1][:2], refusal)
-    if refusal:
-        return
-    yield call, "degree and depth", d, k
-    yield from ((call, "coefficient", A) for A in {-2 ** 31} & set(coefficients))
-    yield from ((call, "corner", corner) for corner in {-EDGE, EDGE} & {X, Y})
-    if call == "bounds":
-        verdict, lower, upper, bend = values
-        yield call, "mode", rest[0], verdict
-        yield call, "level", rest[1]
-        if bend == 0:
-            yield call, "no bend", verdict
-    if call in WALKS:
-        yield call, "depth", k, "mode", rest[0], "accepted"
-        yield from ((call, "mode", rest[0], "a largest bend", kind) for kind in kinds_of(walks[walk_of(args)]))
-    if call == "raster":
-        yield from ((call, "depth", k, "mode", rest[0], "colour", colour) for colour in set(values[-1][:4 ** k]))
-    if call == "listing":
-        records = values[-1][:values[0]]
-        seen = {(second_walk.cell_of(record)[0], second_walk.colour_of(record)) for record in records}
-        yield from ((call, "mode", rest[0], "level", j, "colour", colour) for j, colour in seen)
-        if k <= 4:
-            yield from ((call, "an open part within a cell cleared at level", j) for j in hiding(args, records))
-
-
-def hiding(args, records):
-    """The levels of the cleared cells, two or more above the finest, a part of which is open by its own bounds."""
-    *sheet, k, mode, _ = args
-    cleared = [second_walk.cell_of(record) for record in records if second_walk.colour_of(record) != 1]
-    return {at[0] for at in cleared if at[0] + 2 <= k
-            and any(second.bounds(*sheet, k, mode, *part)[1] == "open" for part in second_walk.parts(*at))}
-
-
-def met_of_place(call, k, mode, entries, content, refusal):
-    """What a place shows: how long it is for its depth, what it holds, and that the refusals before 7 are given though it is too short."""
-    need = 4 ** min(k, 8)
-    if refusal and entries:
-        yield call, "refused by", refusal, "a place that holds", content
-    if refusal in (0, 7):
-        kind = ("no entry" if entries == 0 else "one entry missing" if entries == need - 1 else "several entries missing" if entries < need
-                else "just long enough" if entries == need else "longer")
-        yield call, "depth", k, "mode", mode, "a place", kind, refusal
-        yield call, "a place", kind, "that holds", content
-        if refusal == 0:
-            yield call, "depth", k, "a place that holds", content
-    elif entries < need:
-        yield call, "a place too short, refused by", refusal
-
-
-def wanted_of_contents():
-    """Every content of every kind of place that has an entry, at every depth, and beside every refusal."""
-    for call in WALKS:
-        for content in CONTENTS:
-            yield from ((call, "a place", kind, "that holds", content) for kind in KINDS if kind != "no entry")
-            yield from ((call, "depth", k, "a place that holds", content) for k in range(8))
-            yield from ((call, "refused by", refusal, "a place that holds", content) for refusal in REFUSALS[call])
-
-
-def wanted_of_walks():
-    for call in WALKS:
-        yield from ((call, "a place too short, refused by", refusal) for refusal in range(1, 7))
-        for k in range(8):
-            for mode in (0, 1):
-                yield call, "depth", k, "mode", mode, "accepted"
-                yield from ((call, "depth", k, "mode", mode, "a place", kind, refusal) for kind, refusal in KINDS.items()
-                            if k > 0 or "missing" not in kind)
-        yield from ((call, "mode", mode, "a largest bend", kind) for mode in (0, 1) for kind in LARGEST_BENDS)
-    for mode in (0, 1):
-        for j in range(8):
-            yield from (("raster", "depth", j, "mode", mode, "colour", colour) for colour in (1, 2, 3))
-            yield from (("listing", "mode", mode, "level", j, "colour", colour) for colour in (1, 2, 3))
-    yield from (("listing", "an open part within a cell cleared at level", j) for j in range(3))
-
-
-def wanted():
-    yield from wanted_of_contents()
-    yield from wanted_of_walks()
+def misweighed(cases, expected):
+    """What is wrong with the weights of each call's sheets, and the wrong rules for the weight that they do not tell from the right one."""
     for call in CALLS:
-        yield call, "accepted"
-        yield from ((call, "refused by", refusal) for refusal in REFUSALS[call])
-        yield from ((call, "degree and depth", d, k) for d in range(9) for k in range(8))
-        yield from ((call, f"weight {where} the limit") for where in ("at", "just below"))
-        yield from ((call, *rest) for rest in (("coefficient", -2 ** 31), ("corner", -EDGE), ("corner", EDGE)))
-    yield from (("bounds", "mode", mode, verdict) for mode in (0, 1) for verdict in VERDICTS.values())
-    yield from (("bounds", "level", j) for j in range(8))
-    yield from (("bounds", "no bend", verdict) for verdict in VERDICTS.values())
-
-
-def tally(cases, expected, walks):
-    """Prints how often each refusal, verdict and kind of largest bend came up, and answers what never did."""
-    found = collections.Counter(thing for case, answered in zip(cases, expected) for thing in met(*case, answered, walks))
-    for call in CALLS:
-        refusals = ", ".join(f"{refusal}: {found[call, 'refused by', refusal]}" for refusal in REFUSALS[call])
-        print(f"{call}: {found[call, 'accepted']} accepted, refused by {refusals}")
-    for kind in (("mode", 0), ("mode", 1), ("no bend",)):
-        verdicts = ", ".join(f"{found[('bounds', *kind, verdict)]} {verdict}" for verdict in VERDICTS.values())
-        print(f"{' '.join(map(str, kind))}: {verdicts}")
-    for kind in LARGEST_BENDS:
-        print(f"a largest bend {kind}: " + ", ".join(f"{found[call, 'mode', mode, 'a largest bend', kind]} {call}s in mode {mode}"
-                                                     for call in WALKS for mode in (0, 1)))
-    return [" ".join(map(str, thing)) for thing in wanted() if not found[thing]]
+        yield from weights.faults(call, [(args[:6], answered[0]) for (name, args), answered in zip(cases, expected) if name == call])
 
 
 def tallies(cases, answers):
@@ -383,7 +263,7 @@ def main():
         compared = {walk[-2:] for walk in paired}
         missing = tally(cases, expected, walks)
         missing += [f"raster and listing of one walk, depth {k} mode {mode}" for k in range(8) for mode in (0, 1) if (k, mode) not in compared]
-        lacking = [f"never came up: {thing}" for thing in missing] + [*untold(walks), *tallies(cases, answers)]
+        lacking = [f"never came up: {thing}" for thing in missing] + [*untold(walks), *misweighed(cases, expected), *tallies(cases, answers)]
         for fault in lacking:
             print(fault)
     print(f"compare: seed {chosen.seed}, {len(cases) - len(wrong)} of {len(cases)} answers agree, "

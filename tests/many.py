@@ -12,8 +12,8 @@ place after it and at the end. Every walk of the second program is held to what 
 At the end stand, for each call, the accepted cases by degree and by depth, and the cases that agreed by their number, 0 for an accepted one, with
 how many of a call's cases are distinct, whatever their places hold; the number of a case of answer is that of its text. Anything that disagrees makes
 the run fail, as does a number that the call can't be refused by; and where there are as many cases as by default, or more, a number, degree or depth,
-or a kind of place, content or largest bend, that never came up. So many take half an hour of one processor, half of that on two: the gate has 300 of
-each call.
+or a kind of place, content, largest bend or sheet by its weight, that never came up. So many take half an hour of one processor, half of that on two:
+the gate has 300 of each call.
 """
 import argparse
 import collections
@@ -30,6 +30,7 @@ import cases
 import compare
 import text_places
 import texts
+import weights
 from demands import LARGEST_BENDS, kinds_of
 from many_cases import random_text, single_cases, walk_cases
 from program import BUILT
@@ -42,8 +43,8 @@ KINDS = {"walks": (cases.WALKS, 500), "texts": (("read", "answer"), 1000), "shee
 SHOWN = 5
 
 Part = collections.namedtuple("Part", "kind number count")
-# how often a call's answers agreed, by number and by what its place was, and of accepted cases by degree, depth and kind of largest bend; a call's
-# distinct cases; and what is wrong
+# how often a call's answers agreed, by number, by kind of sheet and by what its place was, and of accepted cases by degree, depth and kind of largest
+# bend; a call's distinct cases; and what is wrong
 Found = collections.namedtuple("Found", "agreed distinct faults")
 
 
@@ -62,15 +63,17 @@ def nothing_yet():
     return Found(collections.Counter(), collections.defaultdict(set), [])
 
 
-def noted(found, call, given, number, d, k, place, agrees, largest_bend=()):
-    """Counts one case, and keeps a few bytes of it that others share only by a rare chance."""
+def noted(found, call, given, number, sheet, place, agrees, largest_bend=()):
+    """Counts one case, and keeps a few bytes of it that others share only by a rare chance. Its sheet counts where it is accepted or refused by 6."""
     found.distinct[call].add(hashlib.blake2b(given, digest_size=10).digest())
     if not agrees:
         return
     found.agreed[call, "number", number] += 1
     found.agreed.update((call, "place", thing) for thing in place)
     found.agreed.update((call, "largest bend", kind) for kind in largest_bend)
+    found.agreed.update((call, "sheet", kind) for kind in weights.kinds_of(sheet, number))
     if number == 0:
+        d, *_, k = sheet
         found.agreed[call, "degree", d] += 1
         found.agreed[call, "depth", k] += 1
 
@@ -81,7 +84,7 @@ def compared(found, made):
     answers = compare.run(compare.PROGRAM, made)
     for (call, args), got, wanted in zip(made, answers, expected):
         walk = call in cases.WALKS
-        noted(found, call, compare.record(call, args), wanted[0], args[0], args[5], args[-1][1:2] if walk else (), got == wanted,
+        noted(found, call, compare.record(call, args), wanted[0], args[:6], args[-1][1:2] if walk else (), got == wanted,
               kinds_of(walks[compare.walk_of(args)]) if walk and wanted[0] == 0 else ())
     found.faults.extend(compare.faults_of_walks(faults) + compare.disagreements(made, answers, expected))
 
@@ -93,9 +96,9 @@ def compared_texts(found, made, rng):
     answers = texts.run(BUILT / "compare_texts", items)
     for item, (got, *left) in zip(items, answers):
         wanted, *expected = texts.second_answer(item)
-        number, _, d, _, _, _, k, *_ = wanted
-        noted(found, "read", item.case.text, number, d, k, (), got == wanted)
-        noted(found, "answer", item.case.text, number, d, k, (item.place.kind, item.place.content), left == expected)
+        number, sheet = wanted[0], texts.described(item.case.text, wanted[0])
+        noted(found, "read", item.case.text, number, sheet, (), got == wanted)
+        noted(found, "answer", item.case.text, number, sheet, (item.place.kind, item.place.content), left == expected)
     found.faults.extend(texts.misjudged(made, told) + [*texts.disagreements(items, answers)])
 
 
@@ -134,13 +137,14 @@ def gathered(seed, parts, jobs):
 
 def wanted(call):
     """What every call must show: each number that it can answer, each degree and each depth, of its places each kind and each content, and of the
-    largest bends each kind."""
+    largest bends and of the sheets each kind."""
     yield from (("number", number) for number in (0, *REFUSALS[call]))
     yield from (("degree", d) for d in range(9))
     yield from (("depth", k) for k in range(8))
     contents = {"raster": cases.CONTENTS, "listing": cases.CONTENTS, "answer": (*text_places.LENGTHS, *text_places.CONTENTS)}
     yield from (("place", thing) for thing in contents.get(call, ()))
     yield from (("largest bend", kind) for kind in LARGEST_BENDS if call in cases.WALKS)
+    yield from (("sheet", kind) for kind in weights.every_kind())
 
 
 def unwanted(agreed, count):
@@ -168,6 +172,8 @@ def all_of(agreed, call):
 
 def tables(found, calls):
     agreed = found.agreed
+    for kind in weights.every_kind():
+        print(f"sheets {kind}: " + ", ".join(f"{agreed[call, 'sheet', kind]} {call}" for call in calls))
     for thing, size in (("degree", 9), ("depth", 8)):
         shown(f"accepted, by {thing}", range(size), [(call, *(agreed[call, thing, at] for at in range(size))) for call in calls])
     rows = [(call, *(agreed[call, "number", number] or (0 if number in (0, *REFUSALS[call]) else "-") for number in NUMBERS),

@@ -4,10 +4,8 @@ They are made as in tests/cases.py and tests/text_cases.py. Beside those stand c
 with a random one of all the faults there. Every depth is walked often; the deepest ones, whose walks are slow, are rarer. What lent places hold is
 drawn by itself, in tests/many.py.
 """
-from cases import (
-    EDGE, ENTRIES, LEAST31, LEAST63, MOST31, MOST32, MOST63, SINGLE, WALKS,
-    accepted, arguments, ends, given, heavier, other_count, random_case, random_walks,
-)
+from case_sheets import EDGE, LEAST31, MOST31, accepted, any_far_out, ends, heavier
+from cases import ENTRIES, LEAST63, MOST32, MOST63, SINGLE, WALKS, arguments, given, other_count, random_case, random_walks
 from second_text import LONGEST
 from text_cases import (
     BYTES, CEILING, NEGATIVE, NOT_WRITTEN, RANGES, TOO_LARGE, Case,
@@ -85,6 +83,13 @@ def heavy_text(rng):
     return Case("the largest coefficients", text_of(rows_of(rng, sheet, rng.randint(0, 1))))
 
 
+def far_text(rng):
+    """A text of a sheet far out along some axis: accepted, just below the limit, or at it."""
+    weight = rng.choice((None, None, 2 ** 62 - 1, 2 ** 62))
+    rows = rows_of(rng, any_far_out(rng, TEXT_DEPTHS, weight), rng.randint(0, 1))
+    return Case("far out", text_of(rows), 6 if weight == 2 ** 62 else 0, 0)
+
+
 def ranged_text(rng):
     """One number beyond its range, of any size."""
     name = rng.choice(sorted(RANGES))
@@ -144,7 +149,7 @@ def scribbled_text(rng):
 
 # a maker of texts, and of a hundred texts how many it makes
 MAKERS = {
-    good_text: 40, heavy_text: 6, ranged_text: 7, several: 7, damaged: 14, mixed: 6,
+    good_text: 37, far_text: 3, heavy_text: 6, ranged_text: 7, several: 7, damaged: 14, mixed: 6,
     number_text: 4, shaped_text: 3, cut_text: 2, moved_text: 2, terms_text: 2, long_text: 5, scribbled_text: 2,
 }
 

@@ -30,7 +30,8 @@ PAGE = ROOT / "docs" / "TABLE-1.md"
 DEPTH = 8  # 256 by 256 pixels
 FINEST = 3  # the square is cut into at most 8 by 8 parts
 SHOWN = 10, 5  # the example and the depth of the document's picture
-HALF = Fraction(1, 2)
+# where a lighter placement of a quarter is looked for: sides of 1, 2, 4 and 8, and along each axis no further from the origin than so many sides
+SCALES, AWAY = range(4), 4
 MARKS = {"open": "0", "above": "+", "below": "-"}
 
 # the equations as they are printed, f = 0 being plotted, with the pixels plotted and the subdivisions of the rows named MAA
@@ -84,7 +85,7 @@ def degree(f):
 
 def moved(f, x, y, scale):
     """f(x + scale X, y + scale Y), as a polynomial in X and Y."""
-    g = collections.defaultdict(Fraction)
+    g = collections.defaultdict(int)
     for (i, j), A in f.items():
         for a in range(i + 1):
             for b in range(j + 1):
@@ -110,21 +111,33 @@ def weight(sheet):
     return second.weight_of(sheet.d, second.terms(sheet.d, sheet.named), sheet.X, sheet.Y, sheet.s, sheet.k)
 
 
+def placed(f, cuts, p, q, X, Y, s):
+    """The part in column p and row q of the square cut so often, as a sheet of side 2^s with the lower left corner X, Y."""
+    d, times = degree(f), 2 ** (cuts + s)  # x is (U + p 2^s - X) / times
+    scaled = {(i, j): A * times ** (d - i - j) for (i, j), A in whole(f).items()}
+    return Sheet(d, whole(moved(scaled, p * 2 ** s - X, q * 2 ** s - Y, 1)), X, Y, s, DEPTH - cuts)
+
+
 def square(f, k):
     """The whole square of the paper, its middle at the origin: the sheet from (-1, -1) to (1, 1)."""
-    return Sheet(degree(f), whole(moved(f, HALF, HALF, HALF)), -1, -1, 1, k)
+    return placed(f, 0, 0, 0, -1, -1, 1)._replace(k=k)
 
 
 def corners(f, cuts, p, q):
-    """The part in column p and row q of the square cut so often: a sheet of side 1 for each corner that may be the origin."""
-    side = Fraction(1, 2 ** cuts)
-    return [Sheet(degree(f), whole(moved(f, (p - X) * side, (q - Y) * side, side)), X, Y, 0, DEPTH - cuts) for X in (-1, 0) for Y in (-1, 0)]
+    """The same part as a sheet of side 1, for each corner that may be the origin."""
+    return [placed(f, cuts, p, q, X, Y, 0) for X in (-1, 0) for Y in (-1, 0)]
 
 
 def middle(f, cuts, p, q):
-    """The same part as a sheet of side 2 with its middle at the origin. These five are all that have R = 1."""
-    side = Fraction(1, 2 ** cuts)
-    return Sheet(degree(f), whole(moved(f, (p + HALF) * side, (q + HALF) * side, side / 2)), -1, -1, 1, DEPTH - cuts)
+    """The same part as a sheet of side 2 with its middle at the origin. These five are all that have Rx = Ry = 1."""
+    return placed(f, cuts, p, q, -1, -1, 1)
+
+
+def placements():
+    """Where a lighter placement is looked for: X, Y and s."""
+    for s in SCALES:
+        corners = range(-AWAY * 2 ** s, (AWAY - 1) * 2 ** s + 1)
+        yield from ((X, Y, s) for X in corners for Y in corners)
 
 
 def part(f, cuts, p, q):
@@ -203,16 +216,19 @@ def table(plots):
 
 
 def too_heavy(f):
-    """Of the quarters that weigh too much wherever they are placed with R = 1: how many, and the least weight of one."""
-    least = [min(map(weight, [*corners(f, 1, p, q), middle(f, 1, p, q)])) for p in (0, 1) for q in (0, 1)]
-    heavy = [weighs for weighs in least if weighs >= second.LIMIT]
-    return len(heavy), min(heavy)
+    """Of the quarters that weigh too much wherever they are placed with Rx = Ry = 1: how many, the least weight of one, and how many of all their
+    placements that are looked at are lighter."""
+    quarters = {(p, q): min(map(weight, [*corners(f, 1, p, q), middle(f, 1, p, q)])) for p in (0, 1) for q in (0, 1)}
+    heavy = {at: weighs for at, weighs in quarters.items() if weighs >= second.LIMIT}
+    lighter = sum(weight(placed(f, 1, *at, *where)) < weighs for at, weighs in heavy.items() for where in placements())
+    return len(heavy), min(heavy.values()), lighter
 
 
 def sentences(plots):
     """What the document says in figures beside its table."""
-    heavy, least = too_heavy(polynomial(3))
-    yield f"{heavy} of its 4 quarters weigh at least 2^40 · {least // 2 ** 40:,}"  # which it is, since R is 1
+    heavy, least, lighter = too_heavy(polynomial(3))
+    yield f"{heavy} of its 4 quarters weigh at least 2^40 · {least // 2 ** 40:,}"  # which it is, since Rx = Ry = 1
+    yield f"{lighter or 'none'} of {len([*placements()]):,} placements is lighter"
     if plots[3]:
         yield f"{len(plots[3].sheets)} of the {4 ** plots[3].cuts} parts"
     yield "{} pixels and {} subdivisions for example 4, too".format(*walked(4)[:2])

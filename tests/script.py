@@ -3,9 +3,10 @@
     python3 tests/script.py [--without-devices]
 
 It is run as a person runs it: on the page's whole case, on every sheet of sheets/, whose pictures are compared with the second program's rasters, on
-texts that are refused by each number, on what cannot be read or written, and without arguments. A tree of its own, with a stand-in for `rt`, shows
-when the program is proved and built. And the picture that README.md begins with is the one that `sheet` draws, with the one that signs at the corners
-give beside it. A check that cannot be tried, since the machine lacks a device, is a fault, unless --without-devices is said (tests/devices.py).
+texts that are refused by each number, on what cannot be read or written, and without arguments. What it says of a sheet that weighs too much is held
+to the second program (tests/advice.py). A tree of its own, with a stand-in for `rt`, shows when the program is proved and built. And the picture that
+README.md begins with is the one that `sheet` draws, with the one that signs at the corners give beside it. A check that cannot be tried, since the
+machine lacks a device, is a fault, unless --without-devices is said (tests/devices.py).
 """
 import argparse
 import importlib.machinery
@@ -18,6 +19,7 @@ import sys
 import tempfile
 
 sys.dont_write_bytecode = True  # nothing is left in the tree
+import advice
 import devices
 import second
 import sheets
@@ -56,8 +58,7 @@ REFUSALS = [
     (written("D 1", "B 0 0 0", "K 8", "M 0"), "refused by 3: the depth k is above 7"),
     (written("D 1", "B 0 -1048577 0", "K 1", "M 0"), "refused by 4: the corner X or Y is outside -1,048,576 to 1,048,576, or s is above 10"),
     (written("D 1", "B 0 0 0", "K 1", "M 2"), "refused by 5: the mode is neither 0 nor 1"),
-    (written("D 8", "B 0 0 0", "K 7", "M 0", "T 0 0 1"), "refused by 6: the weight is 2^62 or more, and 64 bits might not hold every number: a degree d no "
-     "larger than the terms need, a smaller depth"),
+    *((text, "".join([advice.SAID, *(f"\n    {hint}" for hint in told), "\n"])) for text, told in advice.TOLD),
     (b"", "refused by 10: line 1 is missing: the text ends before it\n    It should hold: D<tab>d\n"),
     (written(*START[:2]), "refused by 10: line 3 is missing: the text ends before it\n    It should hold: K<tab>k\n"),
     (WHOLE[:-1], "refused by 10: line 6 is bad, and no line end follows it: T\\t1\\t0\\t1\n    In it \\t is a tab.\n"
@@ -291,7 +292,7 @@ def main():
     if not os.access(SCRIPT, os.X_OK):
         sys.exit("script: ./sheet is no file that can be run")
     run("-", given=WHOLE)  # where a source is newer than the program, this proves and builds it, and says so
-    checks = [*command_checks(), *unwritten_checks(), *build_checks(), *function_checks(), *readme_checks()]
+    checks = [*command_checks(), *unwritten_checks(), *build_checks(), *function_checks(), *advice.checks(module()), *readme_checks()]
     untried = devices.left_out(checks, chosen)
     wrong = [(name, good) for name, good in checks if good is not True and (name, good) not in untried]
     for name, good in wrong:

@@ -1,11 +1,12 @@
-"""The second program: the calls check, value, bounds, raster and listing, worked out from the definition page and request #101.
+"""The second program: the calls check, value, bounds, raster and listing, worked out from the definition page and requests #101 and #102.
 
 Plain exact whole numbers, in the page's order and by the page's formulas, with no thought for the size of a number and little for
 speed. It shares nothing with the proved crates, so that where the two agree neither leans on the other. (Who wrote its walks had seen the
 code of the crate `local`; the local form here is the page's sum all the same.)
 
 The bounds of a cell give the verdict on it, and tests/second_walk.py has what the page says of a walk by verdicts. The tallies have the largest
-bend among coloured cells too, which request #101 adds to the page's.
+bend among coloured cells too, which request #101 adds to the page's. The weight has a limit for each axis, as request #102 has it; the page's own, by
+one limit, is kept for the tests that tell the two apart.
 
 An answer begins with a number: 0 where the sheet is accepted, else the number of the refusal with zeros beside it. Where a place is lent,
 the answer ends with all of the place's entries as they are afterwards.
@@ -119,14 +120,24 @@ def walk_fault(d, coefficients, X, Y, s, k, mode):
 
 # ---- weight
 
-def limit(X, Y, s):
-    """The page's R."""
-    return max(abs(X), abs(X + 2 ** s), abs(Y), abs(Y + 2 ** s))
+def limits(X, Y, s):
+    """Request #102's Rx and Ry: the larger of |X| and |X + 2^s|, and likewise of Y."""
+    return max(abs(X), abs(X + 2 ** s)), max(abs(Y), abs(Y + 2 ** s))
+
+
+def weight_by(Rx, Ry, d, coefficients, k):
+    """The weight by a limit for each axis."""
+    return 2 ** ((k + 1) * d) * sum(abs(A) * Rx ** i * Ry ** j for (i, j), A in table(d, coefficients).items())
 
 
 def weight_of(d, coefficients, X, Y, s, k):
-    R = limit(X, Y, s)
-    return 2 ** ((k + 1) * d) * sum(abs(A) * R ** (i + j) for (i, j), A in table(d, coefficients).items())
+    return weight_by(*limits(X, Y, s), d, coefficients, k)
+
+
+def old_weight_of(d, coefficients, X, Y, s, k):
+    """The weight before #102, the page's, by one R for both axes: no answer goes by it."""
+    R = max(limits(X, Y, s))
+    return weight_by(R, R, d, coefficients, k)
 
 
 def spare_of(weight):
@@ -214,7 +225,7 @@ def listing(d, coefficients, X, Y, s, k, mode, place):
     return 0, len(records), *tally_of(walk, k), records + place[len(records):]
 
 
-# ---- the page's own figures, and some of request #101
+# ---- the page's own figures, and some of requests #101 and #102
 
 def terms(d, named):
     """The coefficients of a polynomial of degree d, those not named being 0."""
@@ -241,6 +252,9 @@ P12 = sheet(8, {}, 0, 0, 7)
 # x^3 from -1 to 0, no sheet of the page: on level 0 the form is -8 + 24e - 24e^2 + 8e^3, of bend 32; all four cells of level 1 are coloured, on the
 # left -27 + 27e - 9e^2 + e^3, of bend 10, and on the right -1 + 3e - 3e^2 + e^3, of bend 4
 CUBE = sheet(3, {(3, 0): 1}, -1, 0, 1)
+# request #102's own sheet, x^4 far out along y, and y^4 far out along x; on level 0 the form is 2^28 (1 + e)^4, or with g for e
+FAR_X4 = 4, terms(4, {(4, 0): 1}), 0, 1024, 0, 7
+FAR_Y4 = 4, terms(4, {(0, 4): 1}), -1025, -1, 0, 7
 
 # the records of four coloured cells at level 1, as the whole case prints them: (p, q) is (0, 0), (1, 0), (0, 1), (1, 1)
 QUARTERS = [65536 + 1, 65536 + 4 + 1, 65536 + 512 + 1, 65536 + 512 + 4 + 1]
@@ -295,6 +309,17 @@ FIGURES = [
     ("P13", raster, P4 + (0, [9] * 5), (0, 5, 4, 0, [1] * 4 + [9])),
     ("P13", listing, P4 + (0, [9] * 5), (0, 4, 5, 4, 0, QUARTERS + [9])),
     *(("P12", check, sheet(8, {e: sign}, 0, 0, 7), (6, 0, 0)) for e in exponents(8) for sign in (1, -1)),
+    *(("#102", check, far, (0, 2 ** 32, 29)) for far in (FAR_X4, FAR_Y4)),
+    ("#102", bounds, FAR_X4 + (0, 0, 0, 0), (0, "open", -7 * 2 ** 28, 2 ** 32, 11 * 2 ** 28)),
+]
+
+# a sheet, its weight, and that before #102. 3x + 5y^2 is worked out by hand: the limits are 3 and 6, or 6 and 3, and it weighs 4 (3 Rx + 5 Ry^2)
+WEIGHTS = [
+    ("P1", P1, 144, 144),
+    ("x^4", FAR_X4, 2 ** 32, 2 ** 32 * 1025 ** 4),
+    ("y^4", FAR_Y4, 2 ** 32, 2 ** 32 * 1025 ** 4),
+    *(("3x + 5y^2", (2, terms(2, {(1, 0): 3, (0, 2): 5}), X, Y, 1, 0), weight, 792)
+      for X, Y, weight in ((-3, 4, 756), (1, -6, 756), (4, -3, 252), (-6, 1, 252))),
 ]
 
 # a sheet, a mode, and the tally of a walk by the verdicts and bends: visited, coloured, and the largest bend. The page prints no largest bend, and no
@@ -328,8 +353,15 @@ def main():
         if len(answer) != len(printed) or any(p is not None and p != a for a, p in zip(answer, printed)):
             print(f"{name}: {call.__name__}{given} answers {answer}, and it should be {printed}")
             wrong += 1
-    figures = len(FIGURES) + 2 * len(TALLIES)
-    print(f"second program: {figures - wrong} of {figures} hold: the figures of the page and of request #101, and what the page says of every walk")
+    for name, given, *weights in WEIGHTS:
+        if [weight_of(*given), old_weight_of(*given)] != weights:
+            print(f"{name}: weighs {weight_of(*given)}, and {old_weight_of(*given)} before #102, and it should be {weights}")
+            wrong += 1
+    if refusal(*FAR_X4) or not old_weight_of(*FAR_X4) >= LIMIT > weight_of(*FAR_X4):
+        print("#102: its own sheet is refused, or was not refused by 6 before")
+        wrong += 1
+    figures = len(FIGURES) + 2 * len(TALLIES) + len(WEIGHTS) + 1
+    print(f"second program: {figures - wrong} of {figures} hold: the figures of the page, of #101 and of #102, and what the page says of every walk")
     return 1 if wrong else 0
 
 

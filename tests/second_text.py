@@ -1,4 +1,4 @@
-"""The second program where it meets texts: the call read and the listing program, worked out from the definition page alone.
+"""The second program where it meets texts: the call read and the listing program, worked out from the definition page.
 
 A text is a row of bytes, and nothing is asked of it: no decoding, no reading of numbers but by the page's own rule. The sheet that a text
 describes is judged and walked by tests/second.py.
@@ -226,6 +226,12 @@ def order_cases():
     yield written("D 8", "B 0 0 0", "K 6", "M 2", "T 0 0 64"), refused(5)
     yield written("D 8", "B 0 0 0", "K 7", "M 1"), sheet(8, 0, 0, 0, 7, 1)
     yield written("D 8", "B 0 0 0", "K 7", "M 1", "T 8 0 -1"), refused(6)
+    # request #102's own sheet; and a limit of 2^10 along one axis, 1 along the other, and 2^34 times a coefficient: at the limit and just below it
+    yield written("D 4", "B 0 1024 0", "K 7", "M 0", "T 4 0 1"), sheet(4, 0, 1024, 0, 7, 0, *[0] * 14, 1)
+    for corner, e, at in (("1023 0", "2 0", 5), ("-1024 -1", "2 0", 5), ("0 1023", "0 2", 2), ("-1 -1024", "0 2", 2)):
+        X, Y = map(int, corner.split())
+        yield written("D 2", f"B {corner} 0", "K 6", "M 0", f"T {e} {2 ** 28}"), refused(6)
+        yield written("D 2", f"B {corner} 0", "K 6", "M 0", f"T {e} {1 - 2 ** 28}"), sheet(2, X, Y, 0, 6, 0, *[0] * at, 1 - 2 ** 28)
     # 11 comes first: the same line is bad in all three
     for longer, answer in ((-1, refused(10, 7)), (0, refused(10, 7)), (1, refused(11))):
         yield WHOLE + b"\n" * (LONGEST - len(WHOLE) + longer), answer

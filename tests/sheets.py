@@ -6,18 +6,24 @@ separate parts as the table says, cells that share a corner being of one part.
 The lost oval is looked at closely, in whole numbers. At a point of one finest cell f has one sign, and at every corner of that cell and of those
 around it the other; so a plotter that compares the signs at corners leaves all of them white. The cell is coloured all the same. And the oval lies
 strictly inside the cell: f keeps the corners' sign along the whole edge, since cells eight times finer that touch the edge from outside are cleared.
+
+The far wave lies far out along x alone, and before request #102 its weight would have been too much. It comes to the left side of its square three
+times and to the right side four times, so it swings six times from one to the other.
 """
 import collections
 import re
 
 import second
 import second_text
+import weights
 from program import ROOT
 
 SHEETS = ROOT / "sheets"
 ROW = re.compile(r"^\| `([\w-]+)` \| `([^`]+)` \| (\d+) \| ", re.M)
 # the sheet with the lost oval, a point inside the oval (x and y over one divisor), how many cells around it stay white, and the finer depth
 LOST, OVAL, AROUND, FINER = "lost-oval", (23, 23, 8), 2, 7
+# the sheet far out along x
+WAVE = "far-wave"
 
 Sheet = collections.namedtuple("Sheet", "d coefficients X Y s k mode")
 
@@ -125,6 +131,19 @@ def lost_oval():
         yield "the oval is not seen to lie strictly inside the cell"
 
 
+def far_wave():
+    """What is not so of the far wave."""
+    *wave, _ = sheet(WAVE)
+    kinds = weights.kinds_of(wave, second.refusal(*wave))
+    yield from (f"it is not {kind}" for kind in ("far along x only, accepted", "of 2^62 or more before #102, accepted") if kind not in kinds)
+    seen, side = raster(WAVE), 2 ** sheet(WAVE).k
+    for name, column, times in (("left", 0, 3), ("right", side - 1, 4)):
+        cells = [seen[row * side + column] == 1 for row in range(side)]
+        came = sum(here and not before for before, here in zip([False, *cells], cells))
+        if came != times:
+            yield f"it comes to the {name} side {came} times, and not {times}"
+
+
 def faults():
     table = told()
     if sorted(table) != names() or not table:
@@ -138,3 +157,4 @@ def faults():
         if path.stem not in table:
             yield f"sheets/{path.name} stands beside no sheet"
     yield from (f"lost oval: {fault}" for fault in lost_oval())
+    yield from (f"far wave: {fault}" for fault in far_wave())

@@ -8,7 +8,8 @@ import random
 
 import second
 import second_text
-from cases import EDGE, LEAST31, MOST31, Sheet, accepted, heavy, limits, near
+from case_sheets import EDGE, LEAST31, MOST31, Sheet, accepted, every_far_out, heavy, near
+from cases import limits
 from second_text import LONGEST, START, WHOLE, written
 
 # the longest text that the program takes
@@ -147,9 +148,11 @@ def below_the_limit(rng, depths=(0, 1, 2)):
 
 
 def weighed(rng, count):
-    """Weights at the limit, just below it, and far beyond it."""
+    """Weights at the limit, just below it, and far beyond it; and squares far out in every way."""
     for _ in range(count):
         yield from (at_the_limit(rng), below_the_limit(rng))
+    for sheet, number in (one for _ in range(2) for one in every_far_out(rng, (0, 1, 2))):
+        yield Case("far out", text_of(rows_of(rng, sheet, rng.randint(0, 1))), number, 0)
     for e in second.exponents(8):
         sheet = Sheet(8, second.terms(8, {e: rng.choice((-1, 1, LEAST31))}), 0, 0, 0, 7)
         yield Case("degree 8 and depth 7", text_of(rows_of(rng, sheet, rng.randint(0, 1))), 6, 0)

@@ -9,7 +9,8 @@ answer, and the one with the longest listing, with places of every length and co
 all little-endian: the number, the line, d, X, Y, s, k, the mode and the 45 coefficients; then in one more word what `answer` answers, and the entries
 that are shown. Every answer is compared with that of tests/second_text.py; and where the number and the line are known from how a text was made, the
 second program is held to them. A run in which some refusal, some bad, missing or unended line, some length at the limit, some degree and depth, some
-mark at some level, or some content of some kind of place never came up fails, too.
+mark at some level, some kind of sheet by its weight, or some content of some kind of place never came up fails, too, and so does one whose texts do
+not tell some wrong rule for the weight from the right one, by their numbers (tests/weights.py).
 
 Then target/bin/listing itself is run: on the page's whole case, on input that comes in pieces, that is empty, far too long, or cannot be read, at all
 or after some of it, with an output that cannot be written, on a text of each kind, and on those of sheets/, whose stored listings it must write. That
@@ -28,10 +29,12 @@ import time
 
 sys.dont_write_bytecode = True  # nothing is left in the tree
 import devices
+import second
 import second_text
 import sheets
 import text_places
-from cases import EDGE, LEAST31, MOST31
+import weights
+from case_sheets import EDGE, LEAST31, MOST31
 from program import BUILT, ROOT, command, ended, number, settings, written_by
 from text_cases import CEILING, all_cases
 from second_text import LONGEST, PLACES, ROOM, WHOLE, WHOLE_LISTING
@@ -130,10 +133,19 @@ def misjudged(cases, told):
             if case.number not in (None, answer[0]) or case.line not in (None, answer[1])]
 
 
+def described(text, number):
+    """The sheet that a text describes, where it is accepted or refused by 6."""
+    if number not in weights.STATES:
+        return None
+    _, (d, X, Y, s, k, _), named = second_text.parsed(text)
+    return d, second.terms(d, named), X, Y, s, k
+
+
 def met(text, answer, written):
     """The things that a text shows, of those that every run must show."""
     refusal, line, d, X, Y, s, k, mode, coefficients = answer
     yield ("refused by", refusal) if refusal else ("accepted",)
+    yield from (("a sheet", kind) for kind in weights.kinds_of(described(text, refusal), refusal))
     yield "length", len(text), refusal
     if refusal == 10:
         yield "bad line", line
@@ -181,14 +193,17 @@ def wanted():
     yield from (("mode", mode) for mode in (0, 1))
     yield from (("corner", corner) for corner in (-EDGE, EDGE))
     yield from (("coefficient", A) for A in (LEAST31, MOST31))
+    yield from (("a sheet", kind) for kind in weights.every_kind())
     yield from (("level", j, "mark", mark) for j in range(8) for mark in "0+-")
 
 
 def tally(cases, told, items):
-    """Prints how often each refusal came up, and answers what never did."""
+    """Prints how often each refusal and each kind of sheet came up, and answers what never did."""
     found = collections.Counter(thing for case, both in zip(cases, told) for thing in met(case.text, *both))
     found.update(thing for item in items for thing in met_of_place(item))
     print(f"read: {found['accepted',]} accepted, refused by " + ", ".join(f"{refusal}: {found['refused by', refusal]}" for refusal in REFUSALS))
+    for kind in weights.every_kind():
+        print(f"a sheet {kind}: {found['a sheet', kind]} texts")
     return [" ".join(map(str, thing)) for thing in wanted() if not found[thing]]
 
 
@@ -302,9 +317,10 @@ def main():
     wrong, other = list(disagreements(items, run(chosen.program, items))), misjudged(cases, told)
     for line in wrong[:SHOWN] + other[:SHOWN]:
         print(line)
-    missing, runs, faults = [], [], []
+    missing, misweighed, runs, faults = [], [], [], []
     if chosen.only is None:
         missing, faults = tally(cases, told, items), list(sheets.faults())
+        misweighed = list(weights.faults("read", [(described(case.text, answer[0]), answer[0]) for case, (answer, _) in zip(cases, told)]))
         if written_by(chosen.program, text_places.MADE) != bytes(ROOM):
             faults.append(f"reply::place makes other than {ROOM} zeros")
         if not chosen.listing.is_file():
@@ -312,12 +328,12 @@ def main():
         runs = list(listing_runs(chosen.listing, cases, told))
     untried = devices.left_out(runs, chosen)
     failed = [(name, fault) for name, fault in runs if fault and (name, fault) not in untried]
-    for line in [f"never came up: {thing}" for thing in missing] + faults + [f"listing, {name}: {fault}" for name, fault in failed]:
+    for line in [f"never came up: {thing}" for thing in missing] + misweighed + faults + [f"listing, {name}: {fault}" for name, fault in failed]:
         print(line)
     print(f"texts: seed {chosen.seed}, {len(items) - len(wrong)} of {len(items)} answers agree, "
           f"{len(runs) - len(failed) - len(untried)} of {len(runs)} runs of listing are right, {len(sheets.names())} sheets with {len(faults)} faults")
     devices.tell(runs, chosen)
-    return 1 if wrong or other or missing or failed or faults else 0
+    return 1 if wrong or other or missing or misweighed or failed or faults else 0
 
 
 if __name__ == "__main__":

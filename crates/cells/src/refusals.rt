@@ -54,8 +54,8 @@ pub fn sheet_weight(d: u32, coefficients: &[i32], x: i32, y: i32, s: u32, k: u32
     requires { ⌜ InRange (sheet-of d (now coefficients) x y s k) ⌝ }
     ensures { λ r. ⌜ r ≡ min (weight (sheet-of d (now (coefficients .entry)) x y s k)) (2 ^ 62) ⌝ }
 {
-    let rx = weight::reach(x, s);
-    let ry = weight::reach(y, s);
+    let rx = weight::axis_limit(x, s);
+    let ry = weight::axis_limit(y, s);
     weight::capped_weight(d, coefficients, rx, ry, (k + 1) * d)
 }
 

@@ -1,39 +1,65 @@
--- The old definitions at numbers, beside the new ones.
+-- The old definitions at numbers; and the request's sheet, before and after.
 use mathlib.Core.Path.{_≡_, refl}
-use Prim.Native.Nat.{_*_, _^_}
+use mathlib.Core.List.{[], _∷_, _++_}
+use Prim.Native.Nat.{ℕ, _*_, _^_}
 use native.Mathlib.Omega.{arith}
-use lib.IntN.{pow, one}
+use lib.IntN.{pos, pow, one}
+use lib.ListN.{replicate}
 use Rattle.algebra.specs.Sum.{sum, sumℕ, run, span, _⋯_}
 use Rattle.algebra.specs.Binomial.{choose}
-use Rattle.algebra.specs.MinMax.{minℤ, maxℤ}
+use Rattle.algebra.specs.MinMax.{minℤ, maxℤ, largest}
 use Rattle.algebra.specs.Triangle.{row-start}
 use Rattle.algebra.specs.Digits.{digits}
 use Rattle.verdicts.specs.Judging.{judged}
-use Rattle.verdicts.specs.Walking.{visited}
+use Rattle.verdicts.specs.declared.Verdict.the-variants.{Open}
+use Rattle.verdicts.specs.Walking.{colour, raster, visited, coloured, largest-bend, those, walking-order, records}
+use Rattle.page.specs.Sheet.{Sheet, sheet-of}
+use Rattle.page.specs.Scaled.{F}
 use Rattle.page.specs.LocalForm.{G}
-use Rattle.page.specs.Bounds.{lower, upper}
+use Rattle.page.specs.Bounds.{lower, upper, bend}
 use Rattle.page.specs.Weight.{weight}
 use Rattle.page.specs.Refusals.{table, first, to-check, to-walk}
-use Rattle.page.specs.CheckedSheets.{P1, P4, P10, far-along-y, off-diagonal}
-use Rattle.probe.specs.Answers.{weighed, checked}
+use Rattle.page.specs.SheetText.{lines, text-of, refused}
+use Rattle.page.specs.CheckedSheets.{P4, P9, far-along-y}
+use Rattle.probe.specs.declared.Valued.the-variants as Valued
+use Rattle.probe.specs.declared.Bounded.the-variants as Bounded
+use Rattle.probe.specs.Answers.{checked}
+use Rattle.walk.specs.declared.Tallied.the-variants as Tallied
+use Rattle.walk.specs.declared.Listed.the-variants as Listed
 use Rattle.earlier.specs.Weight.{old-weight, old-refusal}
-use Rattle.earlier.specs.Answers.{old-weighed}
-use Rattle.earlier.specs.Stays.{Lighter, RefusedForNothing}
+use Rattle.earlier.specs.WeightAnswers.{old-checked, old-valued, old-bounded, old-tallied, old-rastered, old-listed, old-recorded, old-outcome}
+use Rattle.earlier.specs.WeightStays.{Lighter, RefusedForNothing}
 
--- as before where X = Y, and less off the diagonal
-weights : (old-weight P1 ≡ 144) × (weight P1 ≡ 144) × (old-weight off-diagonal ≡ 216) × (weight off-diagonal ≡ 144) × (old-weight far-along-y ≡ 2 ^ 32 * 1_025 ^ 4)
-unfolding sumℕ run span _⋯_ row-start weight old-weight
-weights = (refl, refl, refl, refl, refl)
+-- f = xy², d 3, k 0, X 1, Y 4, s 0: the limits 2 and 5, where R was 5
+abbrev xy² : Sheet
+xy² = sheet-of 3 (replicate 6 (pos 0) ++ (pos 1 ∷ replicate 3 (pos 0))) (pos 1) (pos 4) 0 0
+
+-- f = 2^30 x², d 2, k 7, X 0, s 0: with Y 255 R was 256, and the weight 2^62
+abbrev at-the-limit : ℕ → Sheet
+at-the-limit Y = sheet-of 2 (replicate 5 (pos 0) ++ (pos (2 ^ 30) ∷ [])) (pos 0) (pos Y) 0 7
+
+weights : (old-weight xy² ≡ 1_000) × (old-weight (at-the-limit 255) ≡ 2 ^ 62) × (old-weight far-along-y ≡ 2 ^ 32 * 1_025 ^ 4)
+unfolding sumℕ run span _⋯_ row-start old-weight
+weights = (refl, refl, refl)
 
 -- the old table's rows 6 and 7, at their edges
-numbers : (old-refusal (to-check (P10 63)) ≡ 0) × (old-refusal (to-check (P10 64)) ≡ 6) × (old-refusal (to-walk P4 0 3) ≡ 7)
+numbers : (old-refusal (to-check (at-the-limit 254)) ≡ 0) × (old-refusal (to-check (at-the-limit 255)) ≡ 6) × (old-refusal (to-walk P4 0 3) ≡ 7) × (old-refusal (to-walk P4 0 4) ≡ 0)
 unfolding pow one sum sumℕ run span _⋯_ choose minℤ maxℤ row-start judged G lower upper weight old-weight visited table first
-numbers = (refl, refl, refl)
+numbers = (refl, refl, refl, refl)
 
--- 144 and 216 have eight binary digits each
-lighter : Lighter (weighed off-diagonal) (old-weighed off-diagonal)
-unfolding sumℕ run span _⋯_ row-start digits weight old-weight table first weighed
-lighter = record { number = refl; weight = omega arith; spare = omega arith }
+-- 400 and 53 spare places beside 1,000 and 52
+lighter : Lighter (checked xy²) (old-checked xy²)
+unfolding sumℕ run span _⋯_ row-start digits weight old-weight table first checked
+lighter = (omega arith, omega arith)
+
+-- what the other calls answered
+answers : (old-valued P9 (pos 2) (pos 0) ≡ Valued.At (pos 4)) × (old-bounded P4 0 1 1 0 ≡ Bounded.Cell (Open (pos 0) (pos 4) 0)) × (old-tallied P4 0 5 ≡ Tallied.Tally 5 4 0) × (old-listed P4 0 5 ≡ Listed.Records 4 5 4 0)
+unfolding pow one sum sumℕ largest run span _⋯_ choose minℤ maxℤ row-start judged F G lower upper bend old-weight colour visited coloured largest-bend walking-order those records table first
+answers = (refl, refl, refl, refl)
+
+places : (old-rastered P4 0 (9 ∷ 8 ∷ 7 ∷ 6 ∷ 5 ∷ []) ≡ 1 ∷ 1 ∷ 1 ∷ 1 ∷ 5 ∷ []) × (old-recorded P4 0 (9 ∷ 8 ∷ 7 ∷ 6 ∷ 5 ∷ []) ≡ 65_537 ∷ 65_541 ∷ 66_049 ∷ 66_053 ∷ 5 ∷ []) × (old-outcome [] ≡ refused 10 1)
+unfolding pow one sum sumℕ run span _⋯_ choose minℤ maxℤ row-start judged G lower upper old-weight colour raster visited walking-order those records table first lines text-of
+places = (refl, refl, refl)
 
 -- ---- the request's sheet
 pub refused-for-nothing : RefusedForNothing

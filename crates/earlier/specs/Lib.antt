@@ -1,4 +1,4 @@
--- Definitions that a request replaced, named as the old ones, for what the request says of them. No call goes by them.
+-- Definitions that a request replaced, named as the old ones, for what the request says of them. No call goes by them. #102 replaced the weight.
 pub mod Weight
-pub mod Answers
-pub mod Stays
+pub mod WeightAnswers
+pub mod WeightStays

@@ -1,1 +1,1 @@
-// Definitions that a request replaced, and that what went by them stays as the request says: definitions and statements in specs/, theorems in proofs/. No code.
+// Definitions that a request replaced, and what the request says of them: definitions and statements in specs/, theorems in proofs/. No code.

@@ -82,7 +82,7 @@ pub bounds-P2 : (map (λ mode. lower P1 mode (pair (pos 2) (negsuc 1)) 2) (affin
 unfolding P1 monomial lower low upper high all-even minℤ maxℤ local scaled powers chooses choose _∸_ total vectors run span _⋯_ flatMap sum pow one
 bounds-P2 = (refl, refl)
 
--- ---- weights: P1 with R 1 weighs 144; x y² with d 3, k 0 and the limits 2 and 3 weighs 8 · 2 · 9; x⁴ with d 4, k 7 and the limits 1 and 1,025 weighs 2^32
+-- ---- weights: P1 with the limits 1 and 1 weighs 144; x y² with d 3, k 0 and the limits 2 and 3 weighs 8 · 2 · 9; x⁴ with d 4, k 7 and the limits 1 and 1,025 weighs 2^32
 pub weights : (weight P1 (λ v. 1) ≡ 144) × (weight (plane 3 2 (monomial (pos 1) 1 2)) (pair 2 3) ≡ 144) × (weight (plane 4 256 (monomial (pos 1) 4 0)) (pair 1 1025) ≡ 2 ^ 32)
 unfolding P1 monomial weight powersℕ vectors run span _⋯_ flatMap sumℕ
 weights = (refl, refl, refl)

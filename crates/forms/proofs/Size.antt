@@ -44,7 +44,7 @@ weight-majorants F R = *-sumℕ (F .scale ^ F .degree) (indices F) (λ e. natAbs
 pub weight-mono : (F : Polynomial) (R T : ℕ → ℕ) → Each (F .variables) (λ v. R v ≤ T v) → weight F R ≤ weight F T
 unfolding weight
 weight-mono F R T h = Nat.mul-le-mul-left (F .scale ^ F .degree) (sumℕ-mono (indices F) (λ e m. Nat.mul-le-mul-left (natAbs (F .coefficient e))
-    (powersℕ-mono e R T (subst (λ n. Each n (λ v. R v ≤ T v)) (sym (vectors-fit (F .variables) (F .degree) m .0)) h))))
+    (powersℕ-mono e R T (rw (vectors-fit (F .variables) (F .degree) m .0) h))))
 
 -- ---- the factors of one term: |A(e)| S^(d-|e|) m, and m itself where A(e) is not zero, for any m up to (S R)^e
 module _ (F : Polynomial) (R : ℕ → ℕ) (e : List ℕ) (i : Index F e) where

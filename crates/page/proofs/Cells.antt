@@ -25,8 +25,8 @@ natAbs-between a b z n h k p q = natAbs-bound (≤ℤ-trans (negℤ-mono (pos-mo
 -- ---- along one axis: the corner z, the side 2^s, lengths in units of 1/K
 module _ (z : ℤ) (s K r : ℕ) (near : natAbs z ≤ r) (far : natAbs (z +ℤ pos (2 ^ s)) ≤ r) where
   -- a coordinate from K z to K (z + 2^s) is at most K r
-  pub axis-limit : (u : ℤ) → (pos K *ℤ z) ≤ℤ u → u ≤ℤ (pos K *ℤ (z +ℤ pos (2 ^ s))) → natAbs u ≤ K * r
-  axis-limit u h k = natAbs-between (pos K *ℤ z) (pos K *ℤ (z +ℤ pos (2 ^ s))) u (K * r) h k
+  pub coordinate-limit : (u : ℤ) → (pos K *ℤ z) ≤ℤ u → u ≤ℤ (pos K *ℤ (z +ℤ pos (2 ^ s))) → natAbs u ≤ K * r
+  coordinate-limit u h k = natAbs-between (pos K *ℤ z) (pos K *ℤ (z +ℤ pos (2 ^ s))) u (K * r) h k
       (rw natAbs-*ℤ (Nat.mul-le-mul-left K near)) (rw natAbs-*ℤ (Nat.mul-le-mul-left K far))
 
   -- and so are the ends of an interval of centre K z + c and half-length h, h ≤ c and c + h ≤ K 2^s
@@ -36,8 +36,8 @@ module _ (z : ℤ) (s K r : ℕ) (near : natAbs z ≤ r) (far : natAbs (z +ℤ p
       let o : c - h ≤ K * 2 ^ s = omega arith in
       let less : x +ℤ pos c -ℤ pos h ≡ x +ℤ pos (c - h) = let e : pos c ≡ pos (c - h) +ℤ pos h = ap pos (omega arith) in rw e (ring (x ∷ pos (c - h) ∷ pos h ∷ []) (λ x d h. x ⊕ (d ⊕ h) ⊖ h ≐ x ⊕ d) tt) in
       natAbs-ends (x +ℤ pos c) h (K * r)
-      (rw less (axis-limit (x +ℤ pos (c - h)) (above (c - h)) (below (c - h) o)))
-      (rw (ring (x ∷ pos c ∷ pos h ∷ []) (λ x c h. x ⊕ c ⊕ h ≐ x ⊕ (c ⊕ h)) tt) (axis-limit (x +ℤ pos (c + h)) (above (c + h)) (below (c + h) m)))
+      (rw less (coordinate-limit (x +ℤ pos (c - h)) (above (c - h)) (below (c - h) o)))
+      (rw (ring (x ∷ pos c ∷ pos h ∷ []) (λ x c h. x ⊕ c ⊕ h ≐ x ⊕ (c ⊕ h)) tt) (coordinate-limit (x +ℤ pos (c + h)) (above (c + h)) (below (c + h) m)))
     where
       above : (t : ℕ) → (pos K *ℤ z) ≤ℤ (pos K *ℤ z +ℤ pos t)
       above t = ≤ℤ-by (nonneg t) (ring ((pos K *ℤ z) ∷ pos t ∷ []) (λ x t. x ⊕ t ⊖ x ≐ t ⊖ # 0) tt)
@@ -90,7 +90,7 @@ pub point-limit : (S : Sheet) (u v : ℤ) → misplaced S (point u v) ≡ false 
 point-limit S u v e =
     let h = or-both (outside-side (S .s) (S .k) (S .X) u) (outside-side (S .s) (S .k) (S .Y) v) e in
     let x = inside-side (S .s) (S .k) (S .X) u (h .0) in let y = inside-side (S .s) (S .k) (S .Y) v (h .1) in
-    (axis-limit (S .X) (S .s) (2 ^ (S .k + 1)) (Rx S) (omega arith) (omega arith) u (x .0) (x .1), axis-limit (S .Y) (S .s) (2 ^ (S .k + 1)) (Ry S) (omega arith) (omega arith) v (y .0) (y .1))
+    (coordinate-limit (S .X) (S .s) (2 ^ (S .k + 1)) (Rx S) (omega arith) (omega arith) u (x .0) (x .1), coordinate-limit (S .Y) (S .s) (2 ^ (S .k + 1)) (Ry S) (omega arith) (omega arith) v (y .0) (y .1))
 
 -- ---- the numbers of a cell on an accepted sheet are small
 module _ {S : Sheet} {j p q : ℕ} (r : InRange S) (c : IsCell (S .k) j p q) where

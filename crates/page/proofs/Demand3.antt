@@ -30,7 +30,7 @@ use Rattle.page.specs.Bounds.{lower, upper, bend, verdict}
 use Rattle.page.specs.Weight.{Rx, Ry, weight, Accepted}
 use Rattle.page.specs.Demand3.{Contained, NoOvershoot, OneSign, OpenMeets, Fits64, CellFits, AllFit}
 use Rattle.page.proofs.Cells.{limit-u, limit-v}
-use Rattle.page.proofs.Weights.{limits, weight-is}
+use Rattle.page.proofs.Weights.{limits, limits-small, weight-is}
 use Rattle.page.proofs.Page.{polynomial, centre, value-is, F-is, G-is, lower-is, upper-is, bend-is}
 
 -- ---- the cell is the box
@@ -105,11 +105,6 @@ module _ (S : Sheet) (j p q : ℕ) (c : IsCell (S .k) j p q) where
   limited = both (λ v. natAbs (centre S j p q v) + half-side S j ≤ 2 ^ (S .k + 1) * limits S v) (limit-u S j p q c) (limit-v S j p q c)
 
   module _ (a : Accepted S) where
-    limits-small : (Rx S ≤ 2_097_152) × (Ry S ≤ 2_097_152)
-    limits-small =
-        let s : 2 ^ S .s ≤ 2 ^ 10 = pow-mono (a .ranges .side) in let x = a .ranges .corner-x in let y = a .ranges .corner-y in
-        let f = natAbs-+ℤ (S .X) (pos (2 ^ S .s)) in let g = natAbs-+ℤ (S .Y) (pos (2 ^ S .s)) in (omega arith, omega arith)
-
     -- a coordinate within the limit of its axis fits
     fits-limit : {r : ℕ} → r ≤ 2_097_152 → (u : ℤ) → natAbs u ≤ 2 ^ (S .k + 1) * r → Fits64 u
     fits-limit m u h = Nat.lt-of-le-of-lt (Nat.le-trans h (Nat.mul-le-mul scale-small m)) (omega arith)
@@ -118,10 +113,10 @@ module _ (S : Sheet) (j p q : ℕ) (c : IsCell (S .k) j p q) where
         scale-small = let d = a .ranges .depth in let e : S .k + 1 ≤ 8 = omega arith in pow-mono e
 
     fits-u : (u : ℤ) → natAbs u ≤ 2 ^ (S .k + 1) * Rx S → Fits64 u
-    fits-u = fits-limit (limits-small .0)
+    fits-u = fits-limit (limits-small (a .ranges) .0)
 
     fits-v : (v : ℤ) → natAbs v ≤ 2 ^ (S .k + 1) * Ry S → Fits64 v
-    fits-v = fits-limit (limits-small .1)
+    fits-v = fits-limit (limits-small (a .ranges) .1)
 
     -- what is at most the weight fits
     fits-weight : (z : ℤ) → natAbs z ≤ Weights.weight (polynomial S) (limits S) → Fits64 z

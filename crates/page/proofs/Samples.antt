@@ -1,6 +1,6 @@
 -- The definitions at the page's numbers, computed: figures of single cells, small walks, and the edges of the refusal table. The starred figures stand in the crate `starred`, and few of them here.
 use mathlib.Core.Path.{_≡_, refl}
-use mathlib.Core.List.{[], _∷_}
+use mathlib.Core.List.{[], _∷_, _++_}
 use Prim.Native.Nat.{ℕ, _^_}
 use native.Mathlib.Omega.{arith}
 use lib.IntN.{ℤ, pos, negsuc, pow, one}
@@ -13,13 +13,13 @@ use Rattle.algebra.specs.Digits.{digits}
 use Rattle.forms.specs.Bounds.{affine, centred}
 use Rattle.verdicts.specs.Judging.{judged}
 use Rattle.verdicts.specs.declared.Verdict.the-variants.{Above, Below, Open}
-use Rattle.page.specs.Sheet.{Sheet, A}
-use Rattle.page.specs.CheckedSheets.{square, P1, P4, P5, P7, P9, P10, far-along-y, far-along-x, off-diagonal}
+use Rattle.page.specs.Sheet.{Sheet, sheet-of, A}
+use Rattle.page.specs.CheckedSheets.{square, P1, P4, P5, P7, P9, P10, far-along-y}
 use Rattle.page.specs.Scaled.{F, value-at, half-side, U0, V0, InCell}
 use Rattle.page.specs.LocalForm.{G}
 use Rattle.page.specs.Bounds.{lower, upper, bend, verdict}
 use Rattle.verdicts.specs.Walking.{colour, raster, visited, coloured, largest-bend}
-use Rattle.page.specs.Weight.{reach, Rx, Ry, weight, spare}
+use Rattle.page.specs.Weight.{axis-limit, Rx, Ry, weight, spare}
 use Rattle.page.specs.Refusals.{to-check, at-point, in-cell, to-walk, table, first, refusal}
 
 -- one coefficient at the first of 45 places, and zeros
@@ -53,11 +53,18 @@ unfolding pow one sum sumℕ run span _⋯_ choose minℤ maxℤ row-start judge
 verdicts = (refl, refl, refl)
 
 -- ---- weight
-weights : (reach (negsuc 7) 2 ≡ 8) × (reach (pos 5) 3 ≡ 13) × (Rx P1 ≡ 1) × (Ry P1 ≡ 1) × (weight P1 ≡ 144) × (weight off-diagonal ≡ 144)
+-- f = xy², d 3, k 0, X 1, Y 2, s 0: the limits 2 and 3
+abbrev xy² : Sheet
+xy² = sheet-of 3 (replicate 6 (pos 0) ++ (pos 1 ∷ replicate 3 (pos 0))) (pos 1) (pos 2) 0 0
+
+weights : (axis-limit (negsuc 7) 2 ≡ 8) × (axis-limit (pos 5) 3 ≡ 13) × (Rx P1 ≡ 1) × (Ry P1 ≡ 1) × (weight P1 ≡ 144) × (weight xy² ≡ 144)
 unfolding sumℕ run span _⋯_ row-start weight
 weights = (refl, refl, refl, refl, refl, refl)
 
--- far out along one axis (#102): each coordinate has a limit of its own
+-- far out along one axis (#102): the request's sheet, and f = y⁴ far out along x
+abbrev far-along-x : Sheet
+far-along-x = sheet-of 4 (replicate 4 (pos 0) ++ (pos 1 ∷ replicate 10 (pos 0))) (pos 1_024) (pos 0) 0 7
+
 far : (Rx far-along-y ≡ 1) × (Ry far-along-y ≡ 1_025) × (weight far-along-y ≡ 2 ^ 32) × (spare far-along-y ≡ 29) × (weight far-along-x ≡ 2 ^ 32)
 unfolding sumℕ run span _⋯_ row-start digits weight
 far = (refl, refl, refl, refl, refl)

@@ -4,29 +4,39 @@ use Prim.Native.Nat.{ℕ, _+_, _*_, _-_, _^_, _≤_, _<_, max}
 use native.Mathlib.Nat as Nat
 use native.Mathlib.Omega.{arith}
 use lib.IntN.{ℤ, pos, negsuc, _+ℤ_, natAbs}
-use lib.Pow.{pow-pos}
+use lib.Pow.{pow-pos, pow-mono}
 use Rattle.algebra.specs.Sum.{sumℕ, _⋯_}
 use Rattle.algebra.specs.Triangle.{triangle}
-use Rattle.algebra.proofs.Absolute.{natAbs-*ℤ}
+use Rattle.algebra.proofs.Absolute.{natAbs-*ℤ, natAbs-+ℤ}
 use Rattle.algebra.proofs.Sum.{sumℕ-member}
 use Rattle.algebra.proofs.Run.{member-⋯}
 use Rattle.forms.specs.Plane.{pair, plane}
 use Rattle.forms.specs.Weight.{weight as plane-weight}
 use Rattle.forms.proofs.Plane.{weight-axes}
 use Rattle.forms.proofs.Turns.{scaled-weight}
-use Rattle.page.specs.Sheet.{Sheet, A}
+use Rattle.page.specs.Sheet.{Sheet, A, InRange}
 use Rattle.page.specs.Scaled.{scaled}
-use Rattle.page.specs.Weight.{Rx, Ry, weight, Accepted}
+use Rattle.page.specs.Weight.{axis-limit, Rx, Ry, weight, Accepted}
 
--- ---- each limit is at least 1: Z and Z + 2^s are not both 0
+-- ---- the limit of an axis is at least 1, since z and z + 2^s are not both 0; and where the numbers are in range, it is small
 one-of : (z : ℤ) (n : ℕ) → 1 ≤ n → 1 ≤ max (natAbs z) (natAbs (z +ℤ pos n))
 one-of (pos m) n h = omega arith
 one-of (negsuc m) n h = omega arith
 
-pub limits-positive : (S : Sheet) → (1 ≤ Rx S) × (1 ≤ Ry S)
-limits-positive S = (let h = one-of (S .X) (2 ^ S .s) (pow-pos (S .s)) in omega arith, let h = one-of (S .Y) (2 ^ S .s) (pow-pos (S .s)) in omega arith)
+axis-positive : (z : ℤ) (s : ℕ) → 1 ≤ axis-limit z s
+axis-positive z s = let h = one-of z (2 ^ s) (pow-pos s) in omega arith
 
--- and so is each in units of 1/2^(k+1)
+pub axis-small : (z : ℤ) (s : ℕ) → natAbs z ≤ 1_048_576 → s ≤ 10 → axis-limit z s ≤ 2_097_152
+axis-small z s h k = let m : 2 ^ s ≤ 2 ^ 10 = pow-mono k in let t = natAbs-+ℤ z (pos (2 ^ s)) in omega arith
+
+-- so it is with Rx and Ry
+pub limits-positive : (S : Sheet) → (1 ≤ Rx S) × (1 ≤ Ry S)
+limits-positive S = let x = axis-positive (S .X) (S .s) in let y = axis-positive (S .Y) (S .s) in (omega arith, omega arith)
+
+pub limits-small : {S : Sheet} → InRange S → (Rx S ≤ 2_097_152) × (Ry S ≤ 2_097_152)
+limits-small {S} r = let x = axis-small (S .X) (S .s) (r .corner-x) (r .side) in let y = axis-small (S .Y) (S .s) (r .corner-y) (r .side) in (omega arith, omega arith)
+
+-- and with both in units of 1/2^(k+1)
 pub scaled-positive : (S : Sheet) → (1 ≤ 2 ^ (S .k + 1) * Rx S) × (1 ≤ 2 ^ (S .k + 1) * Ry S)
 scaled-positive S = let h = limits-positive S in (Nat.mul-le-mul (pow-pos (S .k + 1)) (h .0), Nat.mul-le-mul (pow-pos (S .k + 1)) (h .1))
 

@@ -1,4 +1,4 @@
--- Checked sheets: the page's sheets P1 to P10, on which figures are computed, here and in the crates above, with Y = X throughout, and sheets off the diagonal (#102). The starred figures stand in the crate `starred`.
+-- Checked sheets: the page's sheets P1 to P10, with Y = X throughout, and the sheet of #102. Figures are computed on them here and in the crates above; the starred ones stand in the crate `starred`.
 use mathlib.Core.List.{List, [], _∷_, _++_}
 use Prim.Native.Nat.{ℕ}
 use lib.IntN.{ℤ, pos, negℤ}
@@ -47,13 +47,6 @@ P9 = square 2 (pos 0 ∷ pos 0 ∷ pos 0 ∷ pos 0 ∷ pos 0 ∷ pos 1 ∷ []) (
 abbrev pub P10 : ℕ → Sheet
 P10 n = square 8 (pos n ∷ replicate 44 (pos 0)) (pos 0) 0 6
 
--- the sheet of #102, f = x⁴, d 4, k 7, X 0, Y 1,024, s 0; and f = y⁴ far out along x
+-- the sheet of #102: f = x⁴, d 4, k 7, X 0, Y 1,024, s 0
 abbrev pub far-along-y : Sheet
 far-along-y = sheet-of 4 (replicate 14 (pos 0) ++ (pos 1 ∷ [])) (pos 0) (pos 1_024) 0 7
-
-abbrev pub far-along-x : Sheet
-far-along-x = sheet-of 4 (replicate 4 (pos 0) ++ (pos 1 ∷ replicate 10 (pos 0))) (pos 1_024) (pos 0) 0 7
-
--- f = xy², d 3, k 0, X 1, Y 2, s 0: the limits 2 and 3
-abbrev pub off-diagonal : Sheet
-off-diagonal = sheet-of 3 (replicate 6 (pos 0) ++ (pos 1 ∷ replicate 3 (pos 0))) (pos 1) (pos 2) 0 0

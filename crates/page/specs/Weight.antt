@@ -5,16 +5,16 @@ use Rattle.algebra.specs.Sum.{sumℕ, _⋯_}
 use Rattle.algebra.specs.Digits.{digits}
 use Rattle.page.specs.Sheet.{Sheet, A, InRange}
 
--- the larger of |Z| and |Z + 2^s|
-abbrev pub reach : ℤ → ℕ → ℕ
-reach Z s = max (natAbs Z) (natAbs (Z +ℤ pos (2 ^ s)))
+-- how far the square goes along an axis: the larger of |z| and |z + 2^s|, z being its corner there
+abbrev pub axis-limit : ℤ → ℕ → ℕ
+axis-limit z s = max (natAbs z) (natAbs (z +ℤ pos (2 ^ s)))
 
 -- Rx is the larger of |X| and |X + 2^s|, and Ry likewise of Y (#102)
 abbrev pub Rx : Sheet → ℕ
-Rx S = reach (S .X) (S .s)
+Rx S = axis-limit (S .X) (S .s)
 
 abbrev pub Ry : Sheet → ℕ
-Ry S = reach (S .Y) (S .s)
+Ry S = axis-limit (S .Y) (S .s)
 
 -- 2^((k+1)d) times the sum of |A(i,j)| · Rx^i · Ry^j (#102)
 unfoldable pub weight : Sheet → ℕ

@@ -41,9 +41,9 @@ module _ {f : ℕ → ℕ} {r n : ℕ} where
   adding-end {sum} {power} {k} h p = let e : k ≡ suc n = omega arith in p .added ∙ ap (λ m. min (sumℕ (span 0 m) (λ j. f j * r ^ j)) (2 ^ 62)) e
 
 -- ---- rows of powers of ry, each times its own power of rx, are the triangle of both
-shared : (a p q : ℕ) → p * (a * q) ≡ a * p * q
-shared a p q = Nat.mul-left-comm p a q ∙ sym (Nat.mul-assoc a p q)
+regrouped : (a p q : ℕ) → p * (a * q) ≡ a * p * q
+regrouped a p q = Nat.mul-left-comm p a q ∙ sym (Nat.mul-assoc a p q)
 
 pub rows-triangle : (f : ℕ → ℕ → ℕ) (rx ry d : ℕ) → series (λ i. series (f i) ry (d - i)) rx d ≡ triangle d (λ i j. f i j * rx ^ i * ry ^ j)
 rows-triangle f rx ry d = sumℕ-cong (0 ⋯ d) (λ i m.
-    Nat.mul-comm (series (f i) ry (d - i)) (rx ^ i) ∙ *-sumℕ (rx ^ i) (0 ⋯ (d - i)) (λ j. f i j * ry ^ j) ∙ sumℕ-cong (0 ⋯ (d - i)) (λ j k. shared (f i j) (rx ^ i) (ry ^ j)))
+    Nat.mul-comm (series (f i) ry (d - i)) (rx ^ i) ∙ *-sumℕ (rx ^ i) (0 ⋯ (d - i)) (λ j. f i j * ry ^ j) ∙ sumℕ-cong (0 ⋯ (d - i)) (λ j k. regrouped (f i j) (rx ^ i) (ry ^ j)))

@@ -8,8 +8,8 @@ ghost use Rattle.algebra.specs.Triangle.{triangle, place};
 ghost use Rattle.algebra.specs.Digits.{digits};
 ghost use Rattle.weight.specs.Series.{series, sizes};
 
-// the larger of |Z| and |Z + 2^s|
-pub fn reach(z: i32, s: u32) -> u64
+// how far the square goes along an axis: the larger of |z| and |z + 2^s|
+pub fn axis_limit(z: i32, s: u32) -> u64
     requires { ⌜ s ≤ 10 ⌝ }
     ensures { λ r. ⌜ r ≡ max (natAbs z) (natAbs (z +ℤ pos (2 ^ s))) ⌝ }
 {

@@ -21,13 +21,14 @@ use Rattle.page.specs.ReadFacts.{number-of}
 use Rattle.page.proofs.Page.{polynomial}
 use Rattle.page.proofs.Weights.{limits, weight-is}
 use Rattle.page.proofs.Rows.{unless-number}
-use Rattle.probe.specs.Answers.{weighed, valued, bounded}
+use Rattle.probe.specs.declared.Checked.the-variants as Checked
+use Rattle.probe.specs.Answers.{checked, valued, bounded}
 use Rattle.walk.specs.Answers.{tallied, rastered, listed, recorded}
 use Rattle.reading.specs.Answers.{reading-of, reading}
-use Rattle.reply.proofs.Promises.{text-left}
+use Rattle.reply.specs.Answers.{room, written-length, written-place}
 use Rattle.earlier.specs.Weight.{old-R, old-weight, old-spare, old-refusal}
-use Rattle.earlier.specs.Answers.{old-outcome-of, old-outcome}
-use Rattle.earlier.specs.Stays.{NoHeavier, SameOnDiagonal, NumberStays, SixWasSix, Lighter, CheckStays, ValueStays, BoundsStays, RasterStays, ListingStays, ReadStays, AnswerStays}
+use Rattle.earlier.specs.WeightAnswers.{old-outcome-of, old-outcome}
+use Rattle.earlier.specs.WeightStays.{NoHeavier, SameOnDiagonal, AcceptedStays, NumberStays, SixWasSix, Lighter, CheckStays, ValueStays, BoundsStays, RasterStays, ListingStays, ReadStays, AnswerStays}
 
 -- ---- the weights
 -- the old one is that of the polynomial in the plane, with R for both variables
@@ -42,12 +43,16 @@ pub same-on-diagonal : SameOnDiagonal
 same-on-diagonal S e = Nat.le-antisymm (no-heavier S)
     (rw (weight-is S, old-weight-is S) (weight-mono (polynomial S) (λ v. old-R S) (limits S) (both (λ v. old-R S ≤ limits S v) (rw e (omega arith)) (rw e (omega arith)))))
 
--- ---- the table
--- a row 6, of which the condition is h or o, after other rows and before more
+pub accepted-stays : AcceptedStays
+accepted-stays S a = record { ranges = a .ranges; light = Nat.lt-of-le-of-lt (no-heavier S) (a .light) }
+
+-- ---- the table: where the number is not 6, it stays if row 6 is taken to hold less often
+-- a row that stands before
 row-before : (b : Bool) (n : ℕ) {x y : ℕ} → ((y ≡ 6 → ⊥) → x ≡ y) → (cond b n y ≡ 6 → ⊥) → cond b n x ≡ cond b n y
 row-before true n s m = refl
 row-before false n s m = s m
 
+-- h is the condition of row 6 in place of o, whatever rows stand before and after
 among-rows : (before : List Row) (h o : Bool) (after : List Row) → (o ≡ false → h ≡ false) → (first (before ++ ((6 when o) ∷ after)) ≡ 6 → ⊥) →
     first (before ++ ((6 when h) ∷ after)) ≡ first (before ++ ((6 when o) ∷ after))
 unfolding first
@@ -59,8 +64,8 @@ pub number-stays : NumberStays
 unfolding table
 number-stays c n =
     let S = c .sheet in
-    let lighter : leb (2 ^ 62) (old-weight S) ≡ false → leb (2 ^ 62) (weight S) ≡ false = λ e. let l = leb-false (2 ^ 62) (old-weight S) e in let w = no-heavier S in lt-leb (2 ^ 62) (weight S) (omega arith) in
-    among-rows (take 5 (table c)) (leb (2 ^ 62) (weight S)) (leb (2 ^ 62) (old-weight S)) (drop 6 (table c)) lighter n
+    let seldom : leb (2 ^ 62) (old-weight S) ≡ false → leb (2 ^ 62) (weight S) ≡ false = λ e. let l = leb-false (2 ^ 62) (old-weight S) e in let w = no-heavier S in lt-leb (2 ^ 62) (weight S) (omega arith) in
+    among-rows (take 5 (table c)) (leb (2 ^ 62) (weight S)) (leb (2 ^ 62) (old-weight S)) (drop 6 (table c)) seldom n
 
 pub six-was-six : SixWasSix
 six-was-six c e = by-test (eqb (old-refusal c) 6) refl
@@ -69,22 +74,17 @@ six-was-six c e = by-test (eqb (old-refusal c) 6) refl
     by-test true t = eqb-true (old-refusal c) 6 t
     by-test false t = let n = eqb-false (old-refusal c) 6 t in absurd (n (sym (number-stays c n) ∙ e))
 
--- ---- the calls
--- an answer by the old number is the answer
-module _ (c : Input) (n : old-refusal c ≡ 6 → ⊥) where
-  pub unless-stays : {X : Type 0} (refuses : ℕ → X) (values : X) → unless (refusal c) refuses values ≡ unless (old-refusal c) refuses values
-  unless-stays refuses values = ap (λ m. unless m refuses values) (number-stays c n)
+-- ---- the calls: an answer by the number is that by the old number
+unless-stays : (c : Input) → (old-refusal c ≡ 6 → ⊥) → {X : Type 0} (refuses : ℕ → X) (values : X) → unless (refusal c) refuses values ≡ unless (old-refusal c) refuses values
+unless-stays c n refuses values = ap (λ m. unless m refuses values) (number-stays c n)
 
--- zeros beside a number are as light as they were
-lighter : (S : Sheet) (m : ℕ) →
-    Lighter (unless m (λ n. record { number = n; weight = 0; spare = 0 }) (record { number = 0; weight = weight S; spare = spare S }))
-    (unless m (λ n. record { number = n; weight = 0; spare = 0 }) (record { number = 0; weight = old-weight S; spare = old-spare S }))
-lighter S zero = record { number = refl; weight = no-heavier S; spare = let h = digits-mono (no-heavier S) in omega arith }
-lighter S (suc m) = record { number = refl; weight = Nat.le-refl 0; spare = Nat.le-refl 0 }
+lighter : (S : Sheet) (m : ℕ) → Lighter (unless m Checked.Refused (Checked.Accepted (weight S) (spare S))) (unless m Checked.Refused (Checked.Accepted (old-weight S) (old-spare S)))
+lighter S zero = (no-heavier S, let h = digits-mono (no-heavier S) in omega arith)
+lighter S (suc m) = refl
 
 pub check-stays : CheckStays
-unfolding weighed
-check-stays S r h n = rw (h .1, unless-stays (to-check S) n) (lighter S (old-refusal (to-check S)))
+unfolding checked
+check-stays S r h n = rw (h .0, unless-stays (to-check S) n) (lighter S (old-refusal (to-check S)))
 
 pub value-stays : ValueStays
 unfolding valued
@@ -96,11 +96,11 @@ bounds-stays S mode j p q r h n = h .0 ∙ unless-stays (in-cell S mode j p q) n
 
 pub raster-stays : RasterStays
 unfolding tallied rastered
-raster-stays S mode old r now h n = (h .0 ∙ unless-stays (to-walk S mode _) n _ _, h .2 ∙ unless-stays (to-walk S mode _) n _ _)
+raster-stays S mode before r now h n = (h .0 ∙ unless-stays (to-walk S mode _) n _ _, h .2 ∙ unless-stays (to-walk S mode _) n _ _)
 
 pub listing-stays : ListingStays
 unfolding listed recorded
-listing-stays S mode old r now h n = (h .0 ∙ unless-stays (to-walk S mode _) n _ _, h .2 ∙ unless-stays (to-walk S mode _) n _ _)
+listing-stays S mode before r now h n = (h .0 ∙ unless-stays (to-walk S mode _) n _ _, h .2 ∙ unless-stays (to-walk S mode _) n _ _)
 
 -- ---- texts
 outcome-of-stays : (long : Bool) (t : Text) → (number-of (cond long (refused 11 0) (old-outcome-of t)) ≡ 6 → ⊥) → cond long (refused 11 0) (outcome-of t) ≡ cond long (refused 11 0) (old-outcome-of t)
@@ -117,5 +117,8 @@ unfolding reading
 read-stays text r h n = h ∙ ap reading-of (outcome-stays text n)
 
 pub answer-stays : AnswerStays
-unfolding written-text
-answer-stays text old r now h l n = text-left text old r now h l ∙ ap text-after (outcome-stays text n)
+unfolding written-text written-length written-place
+answer-stays text before r now h n =
+    let written : List ℕ → ℕ = λ bytes. cond (ltb (length before) room) 0 (length bytes) in
+    let place : List ℕ → List ℕ = λ bytes. cond (ltb (length before) room) before (bytes ++ drop (length bytes) before) in
+    (h .0 ∙ ap (λ o. written (text-after o)) (outcome-stays text n), h .1 ∙ ap (λ o. place (text-after o)) (outcome-stays text n))

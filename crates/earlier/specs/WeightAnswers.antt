@@ -1,4 +1,4 @@
--- What the calls answered before #102: each definition as it stands, with the old refusal in place of the new one, and with the old weight.
+-- What the calls answer by the old weight: the definition of each answer, with the old refusal and the old weight in it.
 use mathlib.Core.Bool.{cond}
 use mathlib.Core.List.{List, _++_}
 use Prim.Native.Nat.{ℕ, _^_}
@@ -11,21 +11,24 @@ use Rattle.page.specs.Scaled.{F}
 use Rattle.page.specs.Bounds.{verdict}
 use Rattle.page.specs.Refusals.{to-check, at-point, in-cell, to-walk, unless}
 use Rattle.page.specs.SheetText.{lines, Text, bad-line, well-formed, text-of, to-read, Outcome, refused, accepted}
+use Rattle.page.specs.ListingText.{text-after}
+use Rattle.probe.specs.declared.Checked.{Checked}
+use Rattle.probe.specs.declared.Checked.the-variants as Checked
 use Rattle.probe.specs.declared.Valued.{Valued}
 use Rattle.probe.specs.declared.Valued.the-variants as Valued
 use Rattle.probe.specs.declared.Bounded.{Bounded}
 use Rattle.probe.specs.declared.Bounded.the-variants as Bounded
-use Rattle.probe.specs.Answers.{Weighed}
 use Rattle.walk.specs.declared.Tallied.{Tallied}
 use Rattle.walk.specs.declared.Tallied.the-variants as Tallied
 use Rattle.walk.specs.declared.Listed.{Listed}
 use Rattle.walk.specs.declared.Listed.the-variants as Listed
 use Rattle.walk.specs.Answers.{verdicts}
+use Rattle.reply.specs.Answers.{room}
 use Rattle.earlier.specs.Weight.{old-weight, old-spare, old-refusal}
 
 -- ---- check a sheet
-abbrev pub old-weighed : Sheet → Weighed
-old-weighed S = unless (old-refusal (to-check S)) (λ n. record { number = n; weight = 0; spare = 0 }) (record { number = 0; weight = old-weight S; spare = old-spare S })
+abbrev pub old-checked : Sheet → Checked
+old-checked S = unless (old-refusal (to-check S)) Checked.Refused (Checked.Accepted (old-weight S) (old-spare S))
 
 -- ---- value F at a point; bounds and bend of a cell
 abbrev pub old-valued : Sheet → ℤ → ℤ → Valued
@@ -39,14 +42,14 @@ abbrev pub old-tallied : Sheet → ℕ → ℕ → Tallied
 old-tallied S mode n = unless (old-refusal (to-walk S mode n)) Tallied.Refused (Tallied.Tally (visited (verdicts S mode) (S .k)) (coloured (verdicts S mode) (S .k)) (largest-bend (verdicts S mode) (S .k)))
 
 abbrev pub old-rastered : Sheet → ℕ → List ℕ → List ℕ
-old-rastered S mode old = unless (old-refusal (to-walk S mode (length old))) (λ n. old) (raster (verdicts S mode) (S .k) ++ drop (4 ^ S .k) old)
+old-rastered S mode before = unless (old-refusal (to-walk S mode (length before))) (λ n. before) (raster (verdicts S mode) (S .k) ++ drop (4 ^ S .k) before)
 
 -- ---- listing, its length and tally, and the place afterwards
 abbrev pub old-listed : Sheet → ℕ → ℕ → Listed
 old-listed S mode n = unless (old-refusal (to-walk S mode n)) Listed.Refused (Listed.Records (length (records (verdicts S mode) (S .k))) (visited (verdicts S mode) (S .k)) (coloured (verdicts S mode) (S .k)) (largest-bend (verdicts S mode) (S .k)))
 
 abbrev pub old-recorded : Sheet → ℕ → List ℕ → List ℕ
-old-recorded S mode old = unless (old-refusal (to-walk S mode (length old))) (λ n. old) (records (verdicts S mode) (S .k) ++ drop (length (records (verdicts S mode) (S .k))) old)
+old-recorded S mode before = unless (old-refusal (to-walk S mode (length before))) (λ n. before) (records (verdicts S mode) (S .k) ++ drop (length (records (verdicts S mode) (S .k))) before)
 
 -- ---- reading a text
 abbrev pub old-outcome-of : Text → Outcome
@@ -55,3 +58,13 @@ old-outcome-of (well-formed w) = unless (old-refusal (to-read w)) (λ n. refused
 
 abbrev pub old-outcome : List ℕ → Outcome
 old-outcome text = cond (ltb 8_192 (length text)) (refused 11 0) (old-outcome-of (text-of (lines text)))
+
+-- ---- the listing program's call: the text that it writes, how long it is, and the place afterwards
+abbrev pub old-text : List ℕ → List ℕ
+old-text text = text-after (old-outcome text)
+
+abbrev pub old-written-length : List ℕ → ℕ → ℕ
+old-written-length text n = cond (ltb n room) 0 (length (old-text text))
+
+abbrev pub old-written-place : List ℕ → List ℕ → List ℕ
+old-written-place text before = cond (ltb (length before) room) before (old-text text ++ drop (length (old-text text)) before)

@@ -1,4 +1,4 @@
--- `weight::reach` meets its contract: both corners are taken in 64 bits, where they and their sizes fit.
+-- `weight::axis_limit` meets its contract: both corners are taken in 64 bits, where they and their sizes fit.
 use mathlib.Core.Path.{_≡_, _∙_, ap}
 use Prim.Native.Nat.{_^_, _≤_}
 use native.Mathlib.Omega.{arith}
@@ -10,8 +10,8 @@ use mir.Val.{toZ, ofZ}
 use mir.Facts.{toZ-ofZ}
 use Rattle.algebra.proofs.Absolute.{natAbs-+ℤ}
 use Rattle.numbers.proofs.Machine.{read64}
-use Rattle.weight.proofs.reach.Statement.{statement}
-use Rattle.weight.proofs.reach.Tie as tie
+use Rattle.weight.proofs.axis_limit.Statement.{statement}
+use Rattle.weight.proofs.axis_limit.Tie as tie
 
 -- ---- what each number is
 corner-is : (c : tie.After-wide) → toZ w64 (ofZ w64 (c .wide .result)) ≡ c .before .args .z
@@ -55,8 +55,8 @@ returns c =
     let far = c .before .size2 .ensures ∙ ap natAbs (other-is (c .before .before .before)) in
     omega arith
 
-pub reach-spec : {M : Type 1} → statement M
-reach-spec =
+pub axis-limit-spec : {M : Type 1} → statement M
+axis-limit-spec =
     tie.close
     (tie.spec
     wide-requires
