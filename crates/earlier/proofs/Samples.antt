@@ -1,6 +1,6 @@
 -- The old definitions at numbers; and the request's sheet, before and after.
 use mathlib.Core.Path.{_≡_, refl}
-use mathlib.Core.List.{[], _∷_, _++_}
+use mathlib.Core.List.{List, [], _∷_, _++_, flatMap}
 use Prim.Native.Nat.{ℕ, _*_, _^_}
 use native.Mathlib.Omega.{arith}
 use lib.IntN.{pos, pow, one}
@@ -19,7 +19,8 @@ use Rattle.page.specs.LocalForm.{G}
 use Rattle.page.specs.Bounds.{lower, upper, bend}
 use Rattle.page.specs.Weight.{weight}
 use Rattle.page.specs.Refusals.{table, first, to-check, to-walk}
-use Rattle.page.specs.SheetText.{lines, text-of, refused}
+use Rattle.page.specs.SheetText.{lines, fields, all-digits, amount, terms-from, text-of, in-order, refused}
+use Rattle.page.specs.ListingText.{digits-within, decimal, refused-line}
 use Rattle.page.specs.CheckedSheets.{P4, P9, far-along-y}
 use Rattle.probe.specs.declared.Valued.the-variants as Valued
 use Rattle.probe.specs.declared.Bounded.the-variants as Bounded
@@ -27,7 +28,7 @@ use Rattle.probe.specs.Answers.{checked}
 use Rattle.walk.specs.declared.Tallied.the-variants as Tallied
 use Rattle.walk.specs.declared.Listed.the-variants as Listed
 use Rattle.earlier.specs.Weight.{old-weight, old-refusal}
-use Rattle.earlier.specs.WeightAnswers.{old-checked, old-valued, old-bounded, old-tallied, old-rastered, old-listed, old-recorded, old-outcome}
+use Rattle.earlier.specs.WeightAnswers.{old-checked, old-valued, old-bounded, old-tallied, old-rastered, old-listed, old-recorded, old-outcome, old-text, old-written-length, old-written-place}
 use Rattle.earlier.specs.WeightStays.{Lighter, RefusedForNothing}
 
 -- f = xy², d 3, k 0, X 1, Y 4, s 0: the limits 2 and 5, where R was 5
@@ -61,7 +62,15 @@ places : (old-rastered P4 0 (9 ∷ 8 ∷ 7 ∷ 6 ∷ 5 ∷ []) ≡ 1 ∷ 1 ∷ 1
 unfolding pow one sum sumℕ run span _⋯_ choose minℤ maxℤ row-start judged G lower upper old-weight colour raster visited walking-order those records table first lines text-of
 places = (refl, refl, refl)
 
--- ---- the request's sheet
+-- ---- the request's sheet: as a text, of which the old listing was a refusal's line of twelve bytes; and as a sheet
+abbrev far-text : List ℕ
+far-text = 68 ∷ 9 ∷ 52 ∷ 10 ∷ 66 ∷ 9 ∷ 48 ∷ 9 ∷ 49 ∷ 48 ∷ 50 ∷ 52 ∷ 9 ∷ 48 ∷ 10 ∷ 75 ∷ 9 ∷ 55 ∷ 10 ∷ 77 ∷ 9 ∷ 48 ∷ 10 ∷ 84 ∷ 9 ∷ 52 ∷ 9 ∷ 48 ∷ 9 ∷ 49 ∷ 10 ∷ []
+
+texts : (old-outcome far-text ≡ refused 6 0) × (old-text far-text ≡ 114 ∷ 101 ∷ 102 ∷ 117 ∷ 115 ∷ 101 ∷ 100 ∷ 9 ∷ 54 ∷ 9 ∷ 48 ∷ 10 ∷ []) × (old-written-length far-text 262_172 ≡ 12)
+    × (old-written-place far-text (9 ∷ 8 ∷ 7 ∷ []) ≡ 9 ∷ 8 ∷ 7 ∷ [])
+unfolding sumℕ run span _⋯_ row-start old-weight table first lines fields all-digits amount terms-from text-of in-order flatMap digits-within decimal refused-line
+texts = (refl, refl, refl, refl)
+
 pub refused-for-nothing : RefusedForNothing
 unfolding sumℕ run span _⋯_ row-start digits weight old-weight table first checked
 refused-for-nothing = (refl, refl)
