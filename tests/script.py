@@ -189,7 +189,7 @@ def build_checks():
         sources, target, program = tree / "crates" / "listing" / "src", tree / "target", tree / "target" / "bin" / "listing"
         for place in (sources, tree / "tests", target / "bin", target / "stamp", tree / "rt"):
             place.mkdir(parents=True)
-        for name in ("sheet", "tests/program.py", "crates.txt", "crates/listing/src/main.rt"):
+        for name in ("sheet", "tests/program.py", "tests/too_heavy.py", "crates.txt", "crates/listing/src/main.rt"):
             shutil.copy(ROOT / name, tree / name)
         # as rt does, it builds nothing where its stamp stands
         (tree / "rt" / "rt").write_text("""#!/bin/sh
