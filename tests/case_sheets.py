@@ -37,17 +37,17 @@ def places(rng, d):
 def digits(rng, wanted, room):
     """How many binary digits the coordinates may have along x and along y, so that each of the wanted terms has no more than this room: as many along
     both; or few along one axis, and along the other as many as then fit."""
-    far, near = rng.randrange(2), rng.choice((None, 0, rng.randint(0, 5)))
-    if near is None:
+    far, few = rng.randrange(2), rng.choice((None, 0, rng.randint(0, 5)))
+    if few is None:
         return (max(0, min(20, room // max(1, max(map(sum, wanted))))),) * 2
-    most = max(0, min([20] + [(room - near * e[1 - far]) // e[far] for e in wanted if e[far]]))
-    return (near, most) if far else (most, near)
+    most = max(0, min([20] + [(room - few * e[1 - far]) // e[far] for e in wanted if e[far]]))
+    return (few, most) if far else (most, few)
 
 
 def corner(rng, bits, s):
     span = 2 ** rng.randint(0, bits)
-    ends = (-EDGE, EDGE) if bits == 20 else (-2 ** s, -(2 ** s // 2), 0)
-    return rng.choice((rng.randint(-span, span), rng.randint(-span, span), rng.choice(ends)))
+    some = (-EDGE, EDGE) if bits == 20 else (-2 ** s, -(2 ** s // 2), 0)
+    return rng.choice((rng.randint(-span, span), rng.randint(-span, span), rng.choice(some)))
 
 
 def square(rng, bits):
@@ -93,16 +93,16 @@ def accepted(rng, d, k):
     return lighter(rng, d, k, square(rng, rng.choice(((20, 20), fitting, fitting, less, less))), wanted)
 
 
-def ends(sheet, corner):
-    """The least and the greatest coordinate of the closed square; for a sheet that has none, of one like it."""
+def ends(sheet, Z):
+    """The least and the greatest coordinate of the closed square along an axis, with Z for X or Y; for a sheet that has none, of one like it."""
     unit, s = 2 ** (min(sheet.k, 7) + 1), min(sheet.s, 10)
-    return unit * corner, unit * (corner + 2 ** s)
+    return unit * Z, unit * (Z + 2 ** s)
 
 
 def near(rng, sheet):
     """The sheet with another constant term, by which the curve passes near a point of the square; as it is where that weighs too much."""
     d, coefficients, X, Y, s, k = sheet
-    U, V = (rng.randint(*ends(sheet, corner)) for corner in (X, Y))
+    U, V = (rng.randint(*ends(sheet, Z)) for Z in (X, Y))
     there = second.polynomial(d, [0] + coefficients[1:], k, U, V, 1) >> (k + 1) * d
     other = sheet._replace(coefficients=[-there] + coefficients[1:])
     return other if LEAST31 <= -there <= MOST31 and second.weight_of(*other) < 2 ** 62 else sheet
@@ -111,8 +111,9 @@ def near(rng, sheet):
 # ---- sheets that weigh much
 
 def heavy(rng, weight, depths=range(8), bent=False, axes=None, letters="xy"):
-    """A sheet whose weight is 2^62, or the last below it that its scale allows. Where it is to be bent its square has the middle at the origin: there
-    the weight is that of the local form, and the bend nearly all of it. Else it lies far out along the axes that are named, or anywhere."""
+    """A sheet whose weight is 2^62, or the last below it that its scale allows, with powers of no variable but these letters. Where it is to be bent
+    its square has the middle at the origin: there the weight is that of the local form, and the bend nearly all of it. Else it lies far out along the
+    axes that are named, or anywhere."""
     while True:
         d, k = rng.randint(2, 8), rng.choice(depths)
         bits = rng.choice(((rng.randint(0, 20),) * 2, (rng.randint(0, 20), rng.randint(0, 20))))

@@ -157,11 +157,11 @@ def spoiled(rng, call, g, number):
     return g._replace(**{name: beyond(rng, min(sheet.k, MOST32 - 1) if name == "j" else 2 ** g.j - 1)})
 
 
-def random_sheet(rng, d, k, depths, bent=False):
+def random_sheet(rng, d, k, depths, to_bend=False):
     """An accepted sheet: mostly of this degree and depth, and now and then one of any degree that is just below the limit, or far out, or both."""
     kind = rng.random()
     if kind < 0.04:
-        return heavy(rng, 2 ** 62 - 1, depths, bent)
+        return heavy(rng, 2 ** 62 - 1, depths, to_bend)
     return any_far_out(rng, depths, 2 ** 62 - 1 if kind < 0.05 else None) if kind < 0.08 else accepted(rng, d, k)
 
 

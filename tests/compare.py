@@ -159,10 +159,10 @@ def faults_of_walks(faults):
     return [f"the second program's walk is wrong on --case \"{shown(*case)}\": {fault}" for case, fault in faults]
 
 
-def misweighed(cases, expected):
-    """What is wrong with the weights of each call's sheets, and the wrong rules for the weight that they do not tell from the right one."""
+def untold_weights(cases, expected):
+    """The wrong rules for the weight that the sheets of each call do not tell from the right one."""
     for call in CALLS:
-        yield from weights.faults(call, [(args[:6], answered[0]) for (name, args), answered in zip(cases, expected) if name == call])
+        yield from weights.untold(call, [(args[:6], answered[0]) for (name, args), answered in zip(cases, expected) if name == call])
 
 
 def tallies(cases, answers):
@@ -263,7 +263,7 @@ def main():
         compared = {walk[-2:] for walk in paired}
         missing = tally(cases, expected, walks)
         missing += [f"raster and listing of one walk, depth {k} mode {mode}" for k in range(8) for mode in (0, 1) if (k, mode) not in compared]
-        lacking = [f"never came up: {thing}" for thing in missing] + [*untold(walks), *misweighed(cases, expected), *tallies(cases, answers)]
+        lacking = [f"never came up: {thing}" for thing in missing] + [*untold(walks), *untold_weights(cases, expected), *tallies(cases, answers)]
         for fault in lacking:
             print(fault)
     print(f"compare: seed {chosen.seed}, {len(cases) - len(wrong)} of {len(cases)} answers agree, "

@@ -7,9 +7,9 @@ import collections
 
 import second
 import second_walk
+import weights
 from cases import CALLS, CONTENTS, EDGE, REFUSALS, WALKS, walk_of
 from demands import LARGEST_BENDS, kinds_of
-from weights import every_kind, kinds_of as weights_of
 
 VERDICTS = ("above", "below", "open")
 # the kinds of place: the short ones are refused by 7, and a place of no entry is the only short one at depth 0
@@ -31,7 +31,7 @@ def met(call, args, answered, walks):
         short = second.LIMIT - weight
         if short == 0 or refusal == 0 and weight > 0 and short <= 2 ** ((k + 1) * d):
             yield call, "weight at the limit" if short == 0 else "weight just below the limit"
-        yield from ((call, "a sheet", kind) for kind in weights_of((d, coefficients, X, Y, s, k), refusal))
+        yield from ((call, "a sheet", kind) for kind in weights.kinds_of((d, coefficients, X, Y, s, k), refusal))
     yield (call, "refused by", refusal) if refusal else (call, "accepted")
     if call in WALKS:
         yield from met_of_place(call, k, rest[0], *args[-1][:2], refusal)
@@ -116,7 +116,7 @@ def wanted():
         yield from ((call, "refused by", refusal) for refusal in REFUSALS[call])
         yield from ((call, "degree and depth", d, k) for d in range(9) for k in range(8))
         yield from ((call, f"weight {where} the limit") for where in ("at", "just below"))
-        yield from ((call, "a sheet", kind) for kind in every_kind())
+        yield from ((call, "a sheet", kind) for kind in weights.every_kind())
         yield from ((call, *rest) for rest in (("coefficient", -2 ** 31), ("corner", -EDGE), ("corner", EDGE)))
     yield from (("bounds", "mode", mode, verdict) for mode in (0, 1) for verdict in VERDICTS)
     yield from (("bounds", "level", j) for j in range(8))
@@ -135,6 +135,6 @@ def tally(cases, expected, walks):
     for kind in LARGEST_BENDS:
         print(f"a largest bend {kind}: " + ", ".join(f"{found[call, 'mode', mode, 'a largest bend', kind]} {call}s in mode {mode}"
                                                      for call in WALKS for mode in (0, 1)))
-    for kind in every_kind():
+    for kind in weights.every_kind():
         print(f"a sheet {kind}: " + ", ".join(f"{found[call, 'a sheet', kind]} {call}" for call in CALLS))
     return [" ".join(map(str, thing)) for thing in wanted() if not found[thing]]

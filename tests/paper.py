@@ -30,7 +30,7 @@ PAGE = ROOT / "docs" / "TABLE-1.md"
 DEPTH = 8  # 256 by 256 pixels
 FINEST = 3  # the square is cut into at most 8 by 8 parts
 SHOWN = 10, 5  # the example and the depth of the document's picture
-# where a lighter placement of a quarter is looked for: sides of 1, 2, 4 and 8, and along each axis no further from the origin than so many sides
+# where a lighter placement of a quarter is looked for: sides of 1, 2, 4 and 8, and along each axis no farther from the origin than so many sides
 SCALES, AWAY = range(4), 4
 MARKS = {"open": "0", "above": "+", "below": "-"}
 
@@ -83,13 +83,13 @@ def degree(f):
     return max(i + j for i, j in f)
 
 
-def moved(f, x, y, scale):
-    """f(x + scale X, y + scale Y), as a polynomial in X and Y."""
+def moved(f, x, y):
+    """f(x + X, y + Y), as a polynomial in X and Y."""
     g = collections.defaultdict(int)
     for (i, j), A in f.items():
         for a in range(i + 1):
             for b in range(j + 1):
-                g[a, b] += A * comb(i, a) * comb(j, b) * x ** (i - a) * y ** (j - b) * scale ** (a + b)
+                g[a, b] += A * comb(i, a) * comb(j, b) * x ** (i - a) * y ** (j - b)
     return g
 
 
@@ -115,7 +115,7 @@ def placed(f, cuts, p, q, X, Y, s):
     """The part in column p and row q of the square cut so often, as a sheet of side 2^s with the lower left corner X, Y."""
     d, times = degree(f), 2 ** (cuts + s)  # x is (U + p 2^s - X) / times
     scaled = {(i, j): A * times ** (d - i - j) for (i, j), A in whole(f).items()}
-    return Sheet(d, whole(moved(scaled, p * 2 ** s - X, q * 2 ** s - Y, 1)), X, Y, s, DEPTH - cuts)
+    return Sheet(d, whole(moved(scaled, p * 2 ** s - X, q * 2 ** s - Y)), X, Y, s, DEPTH - cuts)
 
 
 def square(f, k):
@@ -124,25 +124,25 @@ def square(f, k):
 
 
 def corners(f, cuts, p, q):
-    """The same part as a sheet of side 1, for each corner that may be the origin."""
+    """A part as a sheet of side 1, for each of its corners that may be the origin."""
     return [placed(f, cuts, p, q, X, Y, 0) for X in (-1, 0) for Y in (-1, 0)]
 
 
-def middle(f, cuts, p, q):
-    """The same part as a sheet of side 2 with its middle at the origin. These five are all that have Rx = Ry = 1."""
-    return placed(f, cuts, p, q, -1, -1, 1)
-
-
-def placements():
-    """Where a lighter placement is looked for: X, Y and s."""
-    for s in SCALES:
-        corners = range(-AWAY * 2 ** s, (AWAY - 1) * 2 ** s + 1)
-        yield from ((X, Y, s) for X in corners for Y in corners)
-
-
 def part(f, cuts, p, q):
-    """The sheet of a part, with the least weight."""
+    """Of these sheets of a part the one with the least weight."""
     return min(corners(f, cuts, p, q), key=weight)
+
+
+def nearest(f, cuts, p, q):
+    """All sheets of a part that have Rx = Ry = 1: these four, and the one of side 2 with its middle at the origin."""
+    return [*corners(f, cuts, p, q), placed(f, cuts, p, q, -1, -1, 1)]
+
+
+def farther():
+    """Where else a lighter sheet of a part is looked for: X, Y and s."""
+    for s in SCALES:
+        places = range(-AWAY * 2 ** s, (AWAY - 1) * 2 ** s + 1)
+        yield from ((X, Y, s) for X in places for Y in places if second.limits(X, Y, s) != (1, 1))
 
 
 # ---- what the program gives
@@ -215,20 +215,20 @@ def table(plots):
             "|---" * 10 + "|", *(row(example, found) for example, found in plots.items())]
 
 
-def too_heavy(f):
-    """Of the quarters that weigh too much wherever they are placed with Rx = Ry = 1: how many, the least weight of one, and how many of all their
-    placements that are looked at are lighter."""
-    quarters = {(p, q): min(map(weight, [*corners(f, 1, p, q), middle(f, 1, p, q)])) for p in (0, 1) for q in (0, 1)}
+def heavy_quarters(f):
+    """Of the quarters that weigh too much wherever they are placed with Rx = Ry = 1: how many they are, the least weight of one, and how many of
+    their other placements are lighter than the lightest of the same quarter there."""
+    quarters = {(p, q): min(map(weight, nearest(f, 1, p, q))) for p in (0, 1) for q in (0, 1)}
     heavy = {at: weighs for at, weighs in quarters.items() if weighs >= second.LIMIT}
-    lighter = sum(weight(placed(f, 1, *at, *where)) < weighs for at, weighs in heavy.items() for where in placements())
+    lighter = sum(weight(placed(f, 1, *at, *where)) < weighs for at, weighs in heavy.items() for where in farther())
     return len(heavy), min(heavy.values()), lighter
 
 
 def sentences(plots):
     """What the document says in figures beside its table."""
-    heavy, least, lighter = too_heavy(polynomial(3))
+    heavy, least, lighter = heavy_quarters(polynomial(3))
     yield f"{heavy} of its 4 quarters weigh at least 2^40 · {least // 2 ** 40:,}"  # which it is, since Rx = Ry = 1
-    yield f"{lighter or 'none'} of {len([*placements()]):,} placements is lighter"
+    yield f"of each of these {heavy} quarters {lighter or 'none'} of {len([*farther()]):,} other placements is lighter"
     if plots[3]:
         yield f"{len(plots[3].sheets)} of the {4 ** plots[3].cuts} parts"
     yield "{} pixels and {} subdivisions for example 4, too".format(*walked(4)[:2])

@@ -1,7 +1,8 @@
 """Texts for the comparison: good ones, ones with a fault that is known, and ones that are damaged at random.
 
 A case is what was done to make the text, the text, and, where that follows from how it was made, the number and the line of the answer: the second
-program is held to these, too. Most good texts are of small depth, since a deep walk is slow; each degree comes up at each depth.
+program is held to these, too. (Of its limits for the axes that says nothing: sheets at the limit and far out are made by them.) Most good texts are
+of small depth, since a deep walk is slow; each degree comes up at each depth.
 """
 import collections
 import random

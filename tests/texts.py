@@ -133,9 +133,9 @@ def misjudged(cases, told):
             if case.number not in (None, answer[0]) or case.line not in (None, answer[1])]
 
 
-def described(text, number):
+def described(text, refusal):
     """The sheet that a text describes, where it is accepted or refused by 6."""
-    if number not in weights.STATES:
+    if refusal not in weights.STATES:
         return None
     _, (d, X, Y, s, k, _), named = second_text.parsed(text)
     return d, second.terms(d, named), X, Y, s, k
@@ -317,10 +317,10 @@ def main():
     wrong, other = list(disagreements(items, run(chosen.program, items))), misjudged(cases, told)
     for line in wrong[:SHOWN] + other[:SHOWN]:
         print(line)
-    missing, misweighed, runs, faults = [], [], [], []
+    missing, untold, runs, faults = [], [], [], []
     if chosen.only is None:
         missing, faults = tally(cases, told, items), list(sheets.faults())
-        misweighed = list(weights.faults("read", [(described(case.text, answer[0]), answer[0]) for case, (answer, _) in zip(cases, told)]))
+        untold = list(weights.untold("read", [(described(case.text, answer[0]), answer[0]) for case, (answer, _) in zip(cases, told)]))
         if written_by(chosen.program, text_places.MADE) != bytes(ROOM):
             faults.append(f"reply::place makes other than {ROOM} zeros")
         if not chosen.listing.is_file():
@@ -328,12 +328,12 @@ def main():
         runs = list(listing_runs(chosen.listing, cases, told))
     untried = devices.left_out(runs, chosen)
     failed = [(name, fault) for name, fault in runs if fault and (name, fault) not in untried]
-    for line in [f"never came up: {thing}" for thing in missing] + misweighed + faults + [f"listing, {name}: {fault}" for name, fault in failed]:
+    for line in [f"never came up: {thing}" for thing in missing] + untold + faults + [f"listing, {name}: {fault}" for name, fault in failed]:
         print(line)
     print(f"texts: seed {chosen.seed}, {len(items) - len(wrong)} of {len(items)} answers agree, "
           f"{len(runs) - len(failed) - len(untried)} of {len(runs)} runs of listing are right, {len(sheets.names())} sheets with {len(faults)} faults")
     devices.tell(runs, chosen)
-    return 1 if wrong or other or missing or misweighed or failed or faults else 0
+    return 1 if wrong or other or missing or untold or failed or faults else 0
 
 
 if __name__ == "__main__":

@@ -1,5 +1,5 @@
-"""Request #102's weight by axis, for tests/compare.py, tests/texts.py and tests/many.py: the kinds of sheets that must come up, and the wrong rules for
-the weight that the cases must tell from the right one.
+"""Request #102's weight by axis, for tests/compare.py, tests/texts.py and tests/many.py: the kinds of sheets that must come up, and the wrong rules
+for the weight that the cases must tell from the right one.
 
 What is said here is said of sheets that are accepted, or refused by 6: of a sheet, d, coefficients, X, Y, s and k, and the number of its answer.
 """
@@ -27,9 +27,9 @@ def letters_of(d, coefficients):
 
 def weighed(d, coefficients, X, Y, s, k):
     Rx, Ry = second.limits(X, Y, s)
-    weight, named = second.weight_of(d, coefficients, X, Y, s, k), second.table(d, coefficients)
+    weight = second.weight_of(d, coefficients, X, Y, s, k)
     letter, mine = ("x", lambda i, j: i > j) if Rx > Ry else ("y", lambda i, j: j > i)
-    part = second.weight_by(Rx, Ry, d, [A if mine(*e) else 0 for e, A in named.items()], k)
+    part = second.weight_by(Rx, Ry, d, [A if mine(*e) else 0 for e, A in second.table(d, coefficients).items()], k)
     carrier = letter if Rx != Ry and 2 * part > weight else None
     return Weighed(Rx, Ry, weight, 2 ** ((k + 1) * d), second.old_weight_of(d, coefficients, X, Y, s, k), letters_of(d, coefficients), carrier)
 
@@ -71,30 +71,31 @@ def every_kind():
 
 # ---- wrong rules for the weight
 
-def reach(Z, s):
-    """The limit along an axis."""
+def axis_limit(Z, s):
     return max(abs(Z), abs(Z + 2 ** s))
 
 
-# wrong rules: the limits along x and along y that each goes by, and whether it makes a sheet heavier, lighter, or one or the other
+# wrong rules: the limits along x and along y that each goes by, and whether it makes a sheet heavier, lighter, or one or the other. They are made of
+# an axis_limit of their own, and not of the second program's limits: were those wrong in one of these ways, then no sheet would tell that rule from
+# them, and the run would fail; made of the wrong limits, the rules would be others
 WRONG_RULES = {
-    "the limits exchanged": (lambda X, Y, s: (reach(Y, s), reach(X, s)), "heavier lighter"),
-    "the larger limit for x": (lambda X, Y, s: (max(reach(X, s), reach(Y, s)), reach(Y, s)), "heavier"),
-    "the larger limit for y": (lambda X, Y, s: (reach(X, s), max(reach(X, s), reach(Y, s))), "heavier"),
-    "the larger limit for both, as before": (lambda X, Y, s: (max(reach(X, s), reach(Y, s)),) * 2, "heavier"),
-    "the smaller limit for both": (lambda X, Y, s: (min(reach(X, s), reach(Y, s)),) * 2, "lighter"),
-    "the limit of x for both": (lambda X, Y, s: (reach(X, s),) * 2, "heavier lighter"),
-    "the limit of y for both": (lambda X, Y, s: (reach(Y, s),) * 2, "heavier lighter"),
-    "x left out": (lambda X, Y, s: (1, reach(Y, s)), "lighter"),
-    "y left out": (lambda X, Y, s: (reach(X, s), 1), "lighter"),
-    "|X| alone": (lambda X, Y, s: (abs(X), reach(Y, s)), "lighter"),
-    "|Y| alone": (lambda X, Y, s: (reach(X, s), abs(Y)), "lighter"),
-    "|X + 2^s| alone": (lambda X, Y, s: (abs(X + 2 ** s), reach(Y, s)), "lighter"),
-    "|Y + 2^s| alone": (lambda X, Y, s: (reach(X, s), abs(Y + 2 ** s)), "lighter"),
-    "the smaller of |X| and |X + 2^s|": (lambda X, Y, s: (min(abs(X), abs(X + 2 ** s)), reach(Y, s)), "lighter"),
-    "the smaller of |Y| and |Y + 2^s|": (lambda X, Y, s: (reach(X, s), min(abs(Y), abs(Y + 2 ** s))), "lighter"),
-    "|X| + 2^s": (lambda X, Y, s: (abs(X) + 2 ** s, reach(Y, s)), "heavier"),
-    "|Y| + 2^s": (lambda X, Y, s: (reach(X, s), abs(Y) + 2 ** s), "heavier"),
+    "the limits exchanged": (lambda X, Y, s: (axis_limit(Y, s), axis_limit(X, s)), "heavier lighter"),
+    "the larger limit for x": (lambda X, Y, s: (max(axis_limit(X, s), axis_limit(Y, s)), axis_limit(Y, s)), "heavier"),
+    "the larger limit for y": (lambda X, Y, s: (axis_limit(X, s), max(axis_limit(X, s), axis_limit(Y, s))), "heavier"),
+    "the larger limit for both, as before": (lambda X, Y, s: (max(axis_limit(X, s), axis_limit(Y, s)),) * 2, "heavier"),
+    "the smaller limit for both": (lambda X, Y, s: (min(axis_limit(X, s), axis_limit(Y, s)),) * 2, "lighter"),
+    "the limit of x for both": (lambda X, Y, s: (axis_limit(X, s),) * 2, "heavier lighter"),
+    "the limit of y for both": (lambda X, Y, s: (axis_limit(Y, s),) * 2, "heavier lighter"),
+    "x left out": (lambda X, Y, s: (1, axis_limit(Y, s)), "lighter"),
+    "y left out": (lambda X, Y, s: (axis_limit(X, s), 1), "lighter"),
+    "|X| alone": (lambda X, Y, s: (abs(X), axis_limit(Y, s)), "lighter"),
+    "|Y| alone": (lambda X, Y, s: (axis_limit(X, s), abs(Y)), "lighter"),
+    "|X + 2^s| alone": (lambda X, Y, s: (abs(X + 2 ** s), axis_limit(Y, s)), "lighter"),
+    "|Y + 2^s| alone": (lambda X, Y, s: (axis_limit(X, s), abs(Y + 2 ** s)), "lighter"),
+    "the smaller of |X| and |X + 2^s|": (lambda X, Y, s: (min(abs(X), abs(X + 2 ** s)), axis_limit(Y, s)), "lighter"),
+    "the smaller of |Y| and |Y + 2^s|": (lambda X, Y, s: (axis_limit(X, s), min(abs(Y), abs(Y + 2 ** s))), "lighter"),
+    "|X| + 2^s": (lambda X, Y, s: (abs(X) + 2 ** s, axis_limit(Y, s)), "heavier"),
+    "|Y| + 2^s": (lambda X, Y, s: (axis_limit(X, s), abs(Y) + 2 ** s), "heavier"),
 }
 # what tells a rule of each way from the right one by the number of an answer
 BY_NUMBER = {"heavier": "refuses by 6 what is accepted", "lighter": "accepts what is refused by 6"}
@@ -112,20 +113,13 @@ def difference(rule, sheet, number):
     return BY_WEIGHT if weight != second.weight_of(*sheet) else None
 
 
-def untold(call, judged):
-    """The wrong rules that the sheets of a call do not tell from the right one: by the number of an answer in each way that the rule has, and by the
-    weight where the call answers one."""
+def untold(call, answered):
+    """The wrong rules that the sheets of a call, each with its number, do not tell from the right one: by the number in each way in which the rule
+    errs, and by the weight where the call answers one."""
+    judged = [(sheet, number) for sheet, number in answered if number in STATES]
     for name, (rule, ways) in WRONG_RULES.items():
         left = [BY_NUMBER[way] for way in ways.split()] + ([BY_WEIGHT] if call == "check" else [])
         for sheet, number in judged:
             found = difference(rule, sheet, number) if left else None
             left = [way for way in left if way != found]
         yield from (f"{call}: on no sheet the wrong rule for the weight \"{name}\" {way}" for way in left)
-
-
-def faults(call, judged):
-    """What is wrong with the weights of a call's sheets that are accepted or refused by 6, and the wrong rules that they do not tell."""
-    judged = [(sheet, number) for sheet, number in judged if number in STATES]
-    grown = [sheet for sheet, _ in judged if second.weight_of(*sheet) > second.old_weight_of(*sheet)]
-    yield from (f"{call}: weighs more than before #102: {sheet}" for sheet in grown[:1])
-    yield from untold(call, judged)
