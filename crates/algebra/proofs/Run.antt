@@ -7,7 +7,7 @@ use native.Mathlib.Nat as Nat
 use native.Mathlib.Decide.{decLe}
 use native.Mathlib.Omega.{arith}
 use lib.IntN.{ℤ, pos, _+ℤ_, natAbs, +ℤ-idl, +ℤ-idr}
-use lib.ListN.{length}
+use lib.ListN.{length, getD}
 use Rattle.algebra.specs.Sum.{sum, sumℕ, run, span, _⋯_}
 use Rattle.algebra.proofs.Sum.{sum-cong, sum-zero, sum-map, sum-++, pos-sumℕ, sumℕ-part}
 
@@ -49,6 +49,17 @@ pub length-run : (a n : ℕ) → length (run a n) ≡ n
 unfolding run
 length-run a zero = refl
 length-run a (suc n) = ap suc (length-run (suc a) n)
+
+-- ---- and which stands at i
+run-at : (a n i : ℕ) → i < n → getD (run a n) i 0 ≡ a + i
+unfolding run
+run-at a zero i h = absurd (omega arith)
+run-at a (suc n) zero h = sym (Nat.add-zero a)
+run-at a (suc n) (suc i) h = run-at (suc a) n i (omega arith) ∙ (let e : suc a + i ≡ a + suc i = omega arith in e)
+
+pub span-at : (n i : ℕ) → i < n → getD (span 0 n) i 0 ≡ i
+unfolding span
+span-at n i h = run-at 0 _ i (omega arith) ∙ Nat.zero-add i
 
 -- ---- their parts
 run-++ : (a m n : ℕ) → run a (m + n) ≡ run a m ++ run (a + m) n

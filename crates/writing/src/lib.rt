@@ -3,6 +3,9 @@
 mod lines;
 mod number;
 
+pub use lines::put_word;
+pub use number::put_byte;
+pub use number::put_field;
 ghost use mathlib.Core.List.{_++_};
 ghost use Prim.Native.Nat.{_+_, _*_, _≤_};
 ghost use lib.ListN.{length};

@@ -51,7 +51,7 @@ pub fn put_records(place: &mut [u8], records: &[u32]) -> usize
 }
 
 // A word.
-fn put_word(place: &mut [u8], at: usize, word: &[u8]) -> usize
+pub fn put_word(place: &mut [u8], at: usize, word: &[u8]) -> usize
     requires { ⌜ at + length (now word) ≤ length (now place) ⌝ }
     ensures { λ r. ⌜ Put at (now (word .entry)) (now (place .entry)) (now (place .exit)) r ⌝ }
 {
