@@ -2,34 +2,24 @@
 use mathlib.Core.Path.{_≡_, refl, sym, _∙_, ap}
 use mathlib.Core.Bool.{Bool, true, false, not, _&&_, _||_, cond, and-true, and-false, or-true}
 use mathlib.Core.List.{List, [], _∷_}
-use Prim.Native.Nat.{ℕ, zero, suc, _+_, _*_, _-_, _^_, _≤_, _<_, min}
-use native.Mathlib.Nat as Nat
-use native.Mathlib.Numerals.{add-one}
+use Prim.Native.Nat.{ℕ, zero, suc, _+_, _-_, _^_, _≤_, _<_, min}
 use native.Mathlib.Omega.{arith}
 use borrow.Rule.Slice.PartAt.{part-to-end}
-use borrow.Author.Tests.{ltb-true, ltb-false, lt-ltb, le-ltb, leb-true, leb-false, eq-eqb, ne-eqb}
+use borrow.Author.Tests.{ltb-true, ltb-false, lt-ltb, le-ltb, eq-eqb, ne-eqb}
 use mir.Syntax.{w32}
 use mir.Val.{toZ, ofZ}
 use mir.Facts.{toZ-neg, toZ-ofZ}
-use lib.Dec.{leb, ltb, eqb}
+use lib.Dec.{ltb, eqb}
 use lib.IntN.{ℤ, pos, negsuc, negℤ, natAbs}
 use lib.ListN.{length, getD, take, drop}
-use lib.Seq.{drop-cons, drop-length}
+use lib.Seq.{drop-length}
 use lib.Signed.{mag}
-use Rattle.algebra.proofs.Choice.{and-left, and-right}
+use Rattle.page.proofs.Amounts.{all-step}
 use Rattle.page.specs.SheetText.{is-digit, all-digits, is-empty, is-decimal, amount, is-minus, without-sign, is-within}
 use Rattle.lines.specs.declared.Number.the-variants as Number
 use Rattle.lines.specs.Steps.{number-in, signless-in, minus-in}
 
--- ---- one byte more
-pub rest-is : (l : List ℕ) (i : ℕ) → i < length l → drop i l ≡ getD l i 0 ∷ drop (i + 1) l
-rest-is l i h = drop-cons l i 0 h ∙ ap (λ n. getD l i 0 ∷ drop n l) (sym (add-one i))
-
-all-step : (l : List ℕ) (i : ℕ) → i < length l → all-digits (drop i l) ≡ is-digit (getD l i 0) && all-digits (drop (i + 1) l)
-unfolding all-digits
-all-step l i h = ap all-digits (rest-is l i h)
-
--- a byte that is no digit settles it; after one that is the rest decides
+-- ---- digits only: a byte that is no digit settles it; after one that is the rest decides
 pub all-found : (l : List ℕ) (i : ℕ) → all-digits l ≡ all-digits (drop i l) → i < length l → {r : Bool} → r ≡ is-digit (getD l i 0) → r ≡ false → false ≡ all-digits l
 all-found l i e h d f = let n : is-digit (getD l i 0) ≡ false = sym d ∙ f in sym (e ∙ all-step l i h ∙ rw n)
 
@@ -39,47 +29,6 @@ all-next l i e h d f = let n : is-digit (getD l i 0) ≡ true = sym d ∙ f in e
 pub all-end : (l : List ℕ) (i : ℕ) → all-digits l ≡ all-digits (drop i l) → i ≡ length l → true ≡ all-digits l
 unfolding all-digits
 all-end l i e h = sym (e ∙ ap (λ n. all-digits (drop n l)) h ∙ ap all-digits (drop-length l))
-
--- ---- the ceiling may be put in early: more digits make no number smaller
-amount-grows : (n : ℕ) (l : List ℕ) → n ≤ amount n l
-unfolding amount
-amount-grows n [] = omega arith
-amount-grows n (b ∷ l) = let h = amount-grows (10 * n + (b - 48)) l in omega arith
-
-early-by : (n c : ℕ) (l : List ℕ) (b : Bool) → leb n c ≡ b → min (amount (min n c) l) c ≡ min (amount n l) c
-early-by n c l true e = let m : min n c ≡ n = Nat.min-eq-left (leb-true n c e) in rw m
-early-by n c l false e =
-    let s : c ≤ n = Nat.le-of-lt (leb-false n c e) in
-    let m : min n c ≡ c = Nat.min-eq-right s in let g = amount-grows n l in let h = amount-grows c l in
-    rw m (omega arith)
-
-pub early : (n c : ℕ) (l : List ℕ) → min (amount (min n c) l) c ≡ min (amount n l) c
-early n c l = early-by n c l (leb n c) refl
-
--- ---- the number of the digits, with its ceiling
-abbrev pub Adding : List ℕ → ℕ → ℕ → Type 0
-Adding l n i = (i ≤ length l) × (n ≤ 2 ^ 32) × (all-digits (drop i l) ≡ true) × (min (amount 0 l) (2 ^ 32) ≡ min (amount n (drop i l)) (2 ^ 32))
-
-pub adding-digit : (l : List ℕ) (n i : ℕ) → Adding l n i → i < length l → (48 ≤ getD l i 0) × (getD l i 0 ≤ 57)
-adding-digit l n i (a, b, d, e) h =
-    let t : is-digit (getD l i 0) ≡ true = and-left _ _ (sym (all-step l i h) ∙ d) in
-    (leb-true 48 (getD l i 0) (and-left (leb 48 (getD l i 0)) (leb (getD l i 0) 57) t), leb-true (getD l i 0) 57 (and-right (leb 48 (getD l i 0)) (leb (getD l i 0) 57) t))
-
-pub adding-next : (l : List ℕ) (n i : ℕ) → Adding l n i → i < length l → {m : ℕ} → m ≡ min (10 * n + (getD l i 0 - 48)) (2 ^ 32) → Adding l m (i + 1)
-unfolding amount
-adding-next l n i (a, b, d, e) h {m} f = (
-  omega arith,
-  omega arith,
-  and-right (is-digit (getD l i 0)) (all-digits (drop (i + 1) l)) (sym (all-step l i h) ∙ d),
-  e ∙ ap (λ r. min (amount n r) (2 ^ 32)) (rest-is l i h) ∙ sym (early (10 * n + (getD l i 0 - 48)) (2 ^ 32) (drop (i + 1) l)) ∙ ap (λ x. min (amount x (drop (i + 1) l)) (2 ^ 32)) (sym f),
-)
-
-pub adding-end : (l : List ℕ) (n i : ℕ) → Adding l n i → i ≡ length l → n ≡ min (amount 0 l) (2 ^ 32)
-unfolding amount
-adding-end l n i (a, b, d, e) h =
-    let z : amount n (drop i l) ≡ n = ap (λ m. amount n (drop m l)) h ∙ ap (amount n) (drop-length l) in
-    let f : min (amount 0 l) (2 ^ 32) ≡ min n (2 ^ 32) = e ∙ ap (λ x. min x (2 ^ 32)) z in
-    omega arith
 
 -- ---- a field is a sign and digits
 pub sign-off : (f : List ℕ) → drop (cond (is-minus f) 1 0) f ≡ without-sign f

@@ -14,6 +14,7 @@ pub mod TextHeads
 pub mod AnyOrder
 pub mod Edges
 pub mod Decimals
+pub mod Amounts
 pub mod Samples
 pub mod TextSamples
 pub mod TextTerms

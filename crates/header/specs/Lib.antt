@@ -1,0 +1,2 @@
+-- What the contracts of what stands before the digits say.
+pub mod Steps
