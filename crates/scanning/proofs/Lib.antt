@@ -1,0 +1,9 @@
+pub mod Ahead
+pub mod Taking
+pub mod Completing
+pub mod Depths
+pub mod Masking
+pub mod Pictures
+pub mod Promises
+pub mod Answering
+pub mod Samples
