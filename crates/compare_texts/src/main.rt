@@ -1,12 +1,12 @@
 // Reads many sheet texts, so that tests/texts.py can hold what comes of them to its second program.
 //
-// Standard input is a row of items. An item begins with seven numbers of four bytes (`item`), which say how long its text and the place that is
-// lent to `answer` are, what the place holds, and what is shown of it. Then come the text, and the bytes of the place that are given one by one.
+// Standard input is a row of items. An item begins with seven numbers of four bytes (`items`): how long its text and the place that is lent to `answer`
+// are, what the place holds, and how many of its first entries, and how many of its last ones, are shown. Then come the text, and the bytes of the place
+// that are given one by one.
 // So every entry of a place can be chosen, and every entry can be seen. For each item standard output has the words of what `read` answers
 // (`sheet`), a word with what `answer` answers, and the first and the last entries of the place, so many as are asked for, as the call left
 // them. An item whose first number is 2^32 - 1 has only its seven numbers, and asks for the place that `reply::place` makes: all of it is written,
 // and nothing else. The program ends where the input does.
-mod item;
 mod sheet;
 
 use libc::STDIN_FILENO;
@@ -19,6 +19,17 @@ ghost use lib.ListN.{length};
 const LONGEST: usize = 262_144;
 
 const ENTRIES: usize = 262_208;
+
+// What the numbers of an item's head say; the three from BYTE on are those of the place.
+const TEXT: usize = 0;
+
+const PLACE: usize = 1;
+
+const BYTE: usize = 2;
+
+const FIRST: usize = 5;
+
+const LAST: usize = 6;
 
 // The first number of an item that asks for what `reply::place` makes.
 const MADE: usize = 4_294_967_295;
@@ -41,28 +52,6 @@ fn made() -> bool {
     io::write_all(STDOUT_FILENO, &place)
 }
 
-// Reads as many bytes as there are places for them; false where fewer are left.
-fn read(given: &mut [u8]) -> bool {
-    let n = given.len();
-    io::read_full(STDIN_FILENO, given) == n
-}
-
-fn fill(place: &mut [u8], byte: u8) {
-    let mut i = 0;
-    while i < place.len() {
-        place[i] = byte;
-        i += 1;
-    }
-}
-
-// Makes the place hold what an item says; false where the input ends within that.
-fn hold(head: &[u8; 28], place: &mut [u8]) -> bool {
-    fill(place, (item::at(head, item::BYTE) % 256) as u8);
-    let end = item::within(head, item::END, place.len());
-    let start = item::within(head, item::START, end);
-    read(&mut place[start..end])
-}
-
 // Writes what comes of a text, and the first and the last entries of the place; false where that can't be written.
 fn answered(input: &[u8], place: &mut [u8], first: usize, last: usize) -> bool
     requires { ⌜ (first ≤ length (now place)) × (last ≤ length (now place)) ⌝ }
@@ -77,11 +66,11 @@ fn answered(input: &[u8], place: &mut [u8], first: usize, last: usize) -> bool
 
 // Lends `answer` the place; false where the input ends before that is held, or the answer can't be written.
 fn lent(head: &[u8; 28], input: &[u8], place: &mut [u8]) -> bool {
-    if !hold(head, place) {
+    if !items::hold(head, BYTE, place) {
         return false;
     }
-    let first = item::within(head, item::FIRST, place.len());
-    let last = item::within(head, item::LAST, place.len());
+    let first = items::within(head, FIRST, place.len());
+    let last = items::within(head, LAST, place.len());
     answered(input, place, first, last)
 }
 
@@ -94,13 +83,13 @@ fn one_item(text: &mut [u8], place: &mut [u8]) -> bool
     if got < 28 {
         return false;
     }
-    if item::at(&head, item::TEXT) == MADE {
+    if items::at(&head, TEXT) == MADE {
         return made();
     }
-    let n = item::within(&head, item::TEXT, LONGEST);
-    let entries = item::within(&head, item::PLACE, ENTRIES);
+    let n = items::within(&head, TEXT, LONGEST);
+    let entries = items::within(&head, PLACE, ENTRIES);
     let input = &mut text[..n];
-    if !read(input) {
+    if !items::read(input) {
         return false;
     }
     lent(&head, input, &mut place[..entries])

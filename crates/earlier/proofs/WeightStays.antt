@@ -25,7 +25,7 @@ use Rattle.probe.specs.declared.Checked.the-variants as Checked
 use Rattle.probe.specs.Answers.{checked, valued, bounded}
 use Rattle.walk.specs.Answers.{tallied, rastered, listed, recorded}
 use Rattle.reading.specs.Answers.{reading-of, reading}
-use Rattle.reply.specs.Answers.{room, written-length, written-place}
+use Rattle.reply.specs.Answers.{room, length-with, place-with}
 use Rattle.earlier.specs.Weight.{old-R, old-weight, old-spare, old-refusal}
 use Rattle.earlier.specs.WeightAnswers.{old-outcome-of, old-outcome}
 use Rattle.earlier.specs.WeightStays.{NoHeavier, SameOnDiagonal, AcceptedStays, NumberStays, SixWasSix, Lighter, CheckStays, ValueStays, BoundsStays, RasterStays, ListingStays, ReadStays, AnswerStays}
@@ -117,7 +117,7 @@ unfolding reading
 read-stays text r h n = h ∙ ap reading-of (outcome-stays text n)
 
 pub answer-stays : AnswerStays
-unfolding written-text written-length written-place
+unfolding written-text length-with place-with
 answer-stays text before r now h n =
     let written : List ℕ → ℕ = λ bytes. cond (ltb (length before) room) 0 (length bytes) in
     let place : List ℕ → List ℕ = λ bytes. cond (ltb (length before) room) before (bytes ++ drop (length bytes) before) in

@@ -1,2 +1,2 @@
--- What an inner contract of the program says.
+-- What the contracts of reading standard input say.
 pub mod Steps

@@ -8,12 +8,12 @@ use lib.Dec.{ltb}
 use lib.ListN.{length}
 use Rattle.page.specs.Refusals.{refusal, unless}
 use Rattle.page.specs.SheetText.{Said, Text, bad-line, well-formed, lines, text-of, to-read, Outcome, refused, accepted, outcome-of, outcome}
-use Rattle.page.specs.ListingText.{refused-line, text-after}
+use Rattle.page.specs.ListingText.{refused-line}
 use Rattle.reading.specs.declared.Reading.{Reading}
 use Rattle.reading.specs.Answers.{reading-of, reading}
 use Rattle.reading.specs.Promises.{ReadPromise}
 use Rattle.writing.specs.Steps.{Put}
-use Rattle.reply.specs.Steps.{FromText}
+use Rattle.reply.specs.Steps.{FromText, Tells}
 
 -- ---- a refusal has a number, and an accepted text passes the table
 abbrev Kept : Outcome → Type 0
@@ -50,20 +50,20 @@ module _ (text : List ℕ) {sheet : Reading} (e : ReadPromise text sheet) where
   pub from-text : sheet .refusal ≡ 0 → FromText sheet
   from-text z = subst FromText (sym is-read) (from-outcome (outcome text) (kept text) (sym (ap (λ s. s .refusal) is-read) ∙ z))
 
-module _ {old now : List ℕ} {r : ℕ} where
-  listed-after : (o : Outcome) → Kept o → reading-of o .refusal ≡ 0 → ((w : Said) → refusal (to-read w) ≡ 0 → reading-of o ≡ reading-of (accepted w) → Put 0 (text-after (accepted w)) old now r) → Put 0 (text-after o) old now r
-  listed-after (refused n line) k e f = absurd (k e)
-  listed-after (accepted w) k e f = f w k refl
+-- ---- what is told of a text: of a refusal its line, of an accepted one what is told of its sheet
+module _ (told : Outcome → List ℕ) (refusals : (n line : ℕ) → told (refused n line) ≡ refused-line n line) {old now : List ℕ} {r : ℕ} where
+  accepted-after : (o : Outcome) → Kept o → reading-of o .refusal ≡ 0 → Tells told (reading-of o) old now r → Put 0 (told o) old now r
+  accepted-after (refused n line) k e f = absurd (k e)
+  accepted-after (accepted w) k e f = f w k refl
 
-  pub listed-text : (text : List ℕ) {sheet : Reading} → ReadPromise text sheet → sheet .refusal ≡ 0
-      → ((w : Said) → refusal (to-read w) ≡ 0 → sheet ≡ reading-of (accepted w) → Put 0 (text-after (accepted w)) old now r) → Put 0 (text-after (outcome text)) old now r
-  listed-text text e z f = let s = is-read text e in listed-after (outcome text) (kept text) (sym (ap (λ t. t .refusal) s) ∙ z) (λ w p q. f w p (s ∙ q))
+  pub accepted-text : (text : List ℕ) {sheet : Reading} → ReadPromise text sheet → sheet .refusal ≡ 0 → Tells told sheet old now r → Put 0 (told (outcome text)) old now r
+  accepted-text text e z f = let s = is-read text e in accepted-after (outcome text) (kept text) (sym (ap (λ t. t .refusal) s) ∙ z) (λ w p q. f w p (s ∙ q))
 
-  refused-after : (o : Outcome) → (reading-of o .refusal ≡ 0 → ⊥) → Put 0 (refused-line (reading-of o .refusal) (reading-of o .line)) old now r → Put 0 (text-after o) old now r
-  refused-after (refused n line) h p = p
+  refused-after : (o : Outcome) → (reading-of o .refusal ≡ 0 → ⊥) → Put 0 (refused-line (reading-of o .refusal) (reading-of o .line)) old now r → Put 0 (told o) old now r
+  refused-after (refused n line) h p = subst (λ bytes. Put 0 bytes old now r) (sym (refusals n line)) p
   refused-after (accepted w) h p = absurd (h refl)
 
-  pub refused-text : (text : List ℕ) {sheet : Reading} → ReadPromise text sheet → (sheet .refusal ≡ 0 → ⊥) → Put 0 (refused-line (sheet .refusal) (sheet .line)) old now r → Put 0 (text-after (outcome text)) old now r
+  pub refused-text : (text : List ℕ) {sheet : Reading} → ReadPromise text sheet → (sheet .refusal ≡ 0 → ⊥) → Put 0 (refused-line (sheet .refusal) (sheet .line)) old now r → Put 0 (told (outcome text)) old now r
   refused-text text e h p =
       let s = is-read text e in
       refused-after (outcome text) (λ z. h (ap (λ t. t .refusal) s ∙ z)) (subst (λ t. Put 0 (refused-line (t .refusal) (t .line)) old now r) s p)

@@ -1,3 +1,4 @@
 pub mod Kept
 pub mod Telling
+mod Drawing
 pub mod Promises

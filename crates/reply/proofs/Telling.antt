@@ -13,7 +13,7 @@ use lib.Seq.{take-at}
 use Rattle.verdicts.specs.Walking.{Verdicts, records, visited, coloured, largest-bend}
 use Rattle.verdicts.proofs.Bounds.{power-small}
 use Rattle.verdicts.proofs.Lengths.{listing-long}
-use Rattle.page.specs.Sheet.{count, sheet-of}
+use Rattle.page.specs.Sheet.{Sheet, count, sheet-of}
 use Rattle.page.specs.Weight.{Accepted}
 use Rattle.page.specs.Refusals.{refusal, to-walk}
 use Rattle.page.specs.SheetText.{Said, sheet-in, to-read, coefficient-of, in-order, accepted}
@@ -39,7 +39,7 @@ is-refused (Listed.Refused n) = true
 
 -- ---- the sheet that is walked is the one that the text says
 module _ {sheet : Reading} (w : Said) (read : sheet ≡ reading-of (accepted w)) where
-  pub same-sheet : sheet-of (sheet .d) (take (count (sheet .d)) (sheet .coefficients)) (sheet .x) (sheet .y) (sheet .s) (sheet .k) ≡ sheet-in w
+  same-sheet : sheet-of (sheet .d) (take (count (sheet .d)) (sheet .coefficients)) (sheet .x) (sheet .y) (sheet .s) (sheet .k) ≡ sheet-in w
   same-sheet =
       ap (λ r. sheet-of (r .d) (take (count (r .d)) (r .coefficients)) (r .x) (r .y) (r .s) (r .k)) read
       ∙ ap (λ l. sheet-of (w .d) l (w .X) (w .Y) (w .s) (w .k)) (order-first (w .d) (coefficient-of (w .terms)) (replicate (45 - count (w .d)) (pos 0)))
@@ -58,14 +58,17 @@ module _ (w : Said) (passed : refusal (to-read w) ≡ 0) where
   pub degree : w .d ≤ 8
   degree = fine .ranges .degree
 
+  pub depth : w .k ≤ 7
+  depth = fine .ranges .depth
+
   -- its walk is refused by no number
-  walks : {n : ℕ} → n ≡ 16_384 → refusal (to-walk (sheet-in w) (w .mode) n) ≡ 0
+  pub walks : {n : ℕ} → n ≡ 16_384 → refusal (to-walk (sheet-in w) (w .mode) n) ≡ 0
   walks {n} e =
       let k = fine .ranges .depth in let p : 4 ^ w .k ≤ n = let q = power-small k in omega arith in
       walk-rows (sheet-in w) (w .mode) n ∙ rest _ no-mode ∙ rw (le-ltb n (4 ^ w .k) p, no-row-9 (sheet-in w) (w .mode) k)
 
   -- the records, and what is counted beside them
-  abbrev seen : Verdicts
+  abbrev pub seen : Verdicts
   seen = verdicts (sheet-in w) (w .mode)
 
   abbrev told : List ℕ
@@ -122,6 +125,11 @@ module _ (w : Said) (passed : refusal (to-read w) ≡ 0) where
 pub small : {sheet : Reading} → FromText sheet → sheet .d ≤ 8
 small f = subst (λ r. r .d ≤ 8) (sym (f .read)) (degree (f .said) (f .passed))
 
+-- what is true of the sheet that is walked is true of the one that the text says
+pub of-said : (P : Sheet → ℕ → Type 0) {sheet : Reading} (w : Said) → sheet ≡ reading-of (accepted w)
+    → P (sheet-of (sheet .d) (take (count (sheet .d)) (sheet .coefficients)) (sheet .x) (sheet .y) (sheet .s) (sheet .k)) (sheet .mode) → P (sheet-in w) (w .mode)
+of-said P {sheet} w e p = subst (P (sheet-in w)) (ap (λ t. t .mode) e) (subst (λ S. P S (sheet .mode)) (same-sheet w e) p)
+
 pub listed-from : {sheet : Reading} (w : Said) → sheet ≡ reading-of (accepted w) → (old : List ℕ) {now : List ℕ} {r : Listed}
     → ListingPromise (sheet-of (sheet .d) (take (count (sheet .d)) (sheet .coefficients)) (sheet .x) (sheet .y) (sheet .s) (sheet .k)) (sheet .mode) old r now → ListingPromise (sheet-in w) (w .mode) old r now
-listed-from {sheet} w e old {now} {r} p = subst (λ m. ListingPromise (sheet-in w) m old r now) (ap (λ t. t .mode) e) (subst (λ S. ListingPromise S (sheet .mode) old r now) (same-sheet w e) p)
+listed-from w e old {now} {r} p = of-said (λ S mode. ListingPromise S mode old r now) w e p

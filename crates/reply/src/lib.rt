@@ -1,14 +1,20 @@
-// The listing of a sheet text, as text: what the listing program writes for what it reads.
+// The listing of a sheet text, as text, and its picture: what the listing program and the program `picture` write for what they read.
+mod picture;
+
 use reading::Reading;
 use walk::Listed;
 ghost use mathlib.Core.Path.{_≡_};
 ghost use Prim.Native.Nat.{_≤_};
 ghost use lib.ListN.{length};
+ghost use Rattle.page.specs.ListingText.{text-after};
 ghost use Rattle.reply.specs.Answers.{room};
 ghost use Rattle.reply.specs.Promises.{PlacePromise, AnswerPromise};
-ghost use Rattle.reply.specs.Steps.{FromText, ListsRecords, Lists};
+ghost use Rattle.reply.specs.Steps.{FromText, ListsRecords, Tells};
+pub use picture::PICTURE_ROOM;
+pub use picture::depict;
+pub use picture::picture_place;
 
-// Room enough for the text of any sheet: 16 bytes for each of 16,384 records, and 28 for the total.
+// Room enough for the listing of any sheet: 16 bytes for each of 16,384 records, and 28 for the total.
 pub const ROOM: usize = 262_172;
 
 // A place that has it.
@@ -48,7 +54,7 @@ fn list_records(sheet: Reading, records: &mut [u32]) -> Listed
 // Writes the listing of an accepted sheet: where its text ends. A sheet that is accepted is refused by no number.
 fn list(sheet: Reading, place: &mut [u8]) -> usize
     requires { ⌜ FromText sheet × (room ≤ length (now place)) ⌝ }
-    ensures { λ r. ⌜ Lists sheet (now (place .entry)) (now (place .exit)) r ⌝ }
+    ensures { λ r. ⌜ Tells text-after sheet (now (place .entry)) (now (place .exit)) r ⌝ }
 {
     let mut records = record_space();
     let listed = list_records(sheet, &mut records);

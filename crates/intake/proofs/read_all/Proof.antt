@@ -1,4 +1,4 @@
--- `listing::read_all` is safe and ends: each read fills more of the place.
+-- `intake::read_all` is safe and ends: each read fills more of the place.
 use mathlib.Core.Path.{_≡_, _∙_}
 use Prim.Native.Nat.{_≤_, _-_}
 use native.Mathlib.Nat as Nat
@@ -6,8 +6,8 @@ use native.Mathlib.Omega.{arith}
 use borrow.Author.Needs.{needs}
 use borrow.Rule.Slice.PartMut.{same-len-mid, mid-len}
 use lib.ListN.{length}
-use Rattle.listing.proofs.read_all.Statement.{statement}
-use Rattle.listing.proofs.read_all.Tie as tie
+use Rattle.intake.proofs.read_all.Statement.{statement}
+use Rattle.intake.proofs.read_all.Tie as tie
 
 abbrev Inv-loop : tie.InvT-loop
 Inv-loop place₀ at₀ place at = (at ≤ length place) × (length place ≡ length place₀)

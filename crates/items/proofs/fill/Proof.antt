@@ -1,10 +1,10 @@
--- `compare_texts::fill` is safe and ends: what is left of the place falls. Assumes nothing.
+-- `items::fill` is safe and ends: what is left of the place falls. Assumes nothing.
 use Prim.Native.Nat.{_≤_, _-_}
 use mathlib.Core.Path.{_≡_}
 use lib.ListN.{length, length-set}
 use borrow.Author.Needs.{needs}
-use Rattle.compare_texts.proofs.fill.Statement.{statement}
-use Rattle.compare_texts.proofs.fill.Tie as tie
+use Rattle.items.proofs.fill.Statement.{statement}
+use Rattle.items.proofs.fill.Tie as tie
 
 abbrev Inv-loop : tie.InvT-loop
 Inv-loop place₀ byte i₀ place i = (i ≤ length place₀) × (length place ≡ length place₀)

@@ -1,12 +1,15 @@
 -- `reply::answer` keeps its promise.
-use Rattle.reply.proofs.Kept.{from-text, listed-text, refused-text}
+use mathlib.Core.Path.{refl}
+use Rattle.page.specs.ListingText.{text-after, written-text}
+use Rattle.reply.specs.Answers.{room}
+use Rattle.reply.proofs.Kept.{from-text, accepted-text, refused-text}
 use Rattle.reply.proofs.Promises.{no-room, written}
 use borrow.Author.Needs.{needs}
 use Rattle.reply.proofs.answer.Statement.{statement}
 use Rattle.reply.proofs.answer.Tie as tie
 
 returns : tie.Need-returns
-returns c = let s = c .before .before .before in no-room (s .args .text .now) (s .args .place .now) (c .if1 .taken)
+returns c = let s = c .before .before .before in no-room room (written-text (s .args .text .now)) (s .args .place .now) (c .if1 .taken)
 
 read-requires : tie.Need-read-requires
 read-requires c κs = search needs
@@ -18,9 +21,10 @@ same-length : tie.Need-same-length
 same-length c = search needs
 
 returns-2 : tie.Need-returns-2
+unfolding written-text
 returns-2 c =
     let t = c .before .before .before .before in let r = t .before .before in let s = r .before .before .before .before in
-    written (s .args .text .now) (s .args .place .now) (r .before .if1 .left) (refused-text _ (r .read .ensures) (t .if2 .taken) (c .before .before .write-refusal .ensures))
+    written room (written-text (s .args .text .now)) (s .args .place .now) (r .before .if1 .left) (refused-text text-after (λ n line. refl) _ (r .read .ensures) (t .if2 .taken) (c .before .before .write-refusal .ensures))
 
 list-requires : tie.Need-list-requires
 list-requires c κs = let r = c .before .before .before in (from-text _ (r .read .ensures) (c .before .if2 .left), r .before .if1 .left)
@@ -29,9 +33,10 @@ same-length-2 : tie.Need-same-length-2
 same-length-2 c = search needs
 
 returns-3 : tie.Need-returns-3
+unfolding written-text
 returns-3 c =
     let t = c .before .before .before .before in let r = t .before .before in let s = r .before .before .before .before in
-    written (s .args .text .now) (s .args .place .now) (r .before .if1 .left) (listed-text _ (r .read .ensures) (t .if2 .left) (c .before .before .list .ensures))
+    written room (written-text (s .args .text .now)) (s .args .place .now) (r .before .if1 .left) (accepted-text text-after (λ n line. refl) _ (r .read .ensures) (t .if2 .left) (c .before .before .list .ensures))
 
 pub answer-spec : {M : Type 1} → statement M
 answer-spec =
