@@ -13,36 +13,34 @@ mark at some level, some kind of sheet by its weight, or some content of some ki
 not tell some wrong rule for the weight from the right one, by their numbers (tests/weights.py).
 
 Then target/bin/listing itself is run: on the page's whole case, on input that comes in pieces, that is empty, far too long, or cannot be read, at all
-or after some of it, with an output that cannot be written, on a text of each kind, and on those of sheets/, whose stored listings it must write. That
-these are as sheets/README.md says is for tests/sheets.py. A run that cannot be tried, since the machine lacks a device, is a fault, unless
---without-devices is said (tests/devices.py).
+or after some of it, with an output that cannot be written (tests/streams.py), on a text of each kind, and on those of sheets/, whose stored listings it
+must write. That these are as sheets/README.md says is for tests/sheets.py. A run that cannot be tried, since the machine lacks a device, is a fault,
+unless --without-devices is said (tests/devices.py).
 """
 import argparse
 import collections
-import os
 import pathlib
 import random
 import struct
-import subprocess
 import sys
-import time
 
 sys.dont_write_bytecode = True  # nothing is left in the tree
 import devices
 import second
 import second_text
 import sheets
+import streams
 import text_places
 import weights
 from case_sheets import EDGE, LEAST31, MOST31
-from program import BUILT, ROOT, command, ended, number, settings, written_by
+from program import BUILT, ended, number, written_by
+from streams import fault_of
 from text_cases import CEILING, all_cases
 from second_text import LONGEST, PLACES, ROOM, WHOLE, WHOLE_LISTING
 
 REFUSALS = (1, 3, 4, 5, 6, 10, 11)
 WORDS = 8 + PLACES + 1
 SHOWN = 5
-STACK = 512 * 1024
 # the lines of the longest listing: that of a sheet of depth 7 each cell of which is coloured
 LINES = 4 ** 7 + 1
 
@@ -209,65 +207,6 @@ def tally(cases, told, items):
 
 # ---- the listing program
 
-def fault_of(run, expected):
-    """What is wrong with a run that was given a text, or nothing. The page says nothing of a status; an accepted sheet ends well."""
-    if run.stdout != expected:
-        return f"writes {run.stdout[:200]!r}, and {expected[:200]!r} is right"
-    if run.stderr:
-        return f"writes to standard error: {run.stderr[:200]!r}"
-    if run.returncode != 0 and not expected.startswith(b"refused"):
-        return f"ends with status {run.returncode}"
-    return None
-
-
-def in_pieces(program, pieces):
-    """A run whose input comes piece by piece."""
-    started = subprocess.Popen(command(program), stdin=subprocess.PIPE, stdout=subprocess.PIPE, stderr=subprocess.PIPE, env=settings())
-    try:
-        for piece in pieces:
-            started.stdin.write(piece)
-            started.stdin.flush()
-            time.sleep(0.02)
-    except BrokenPipeError:  # it did not wait for all of it: what it wrote is judged
-        pass
-    out, err = started.communicate()
-    return subprocess.CompletedProcess(started.args, started.returncode, out, err)
-
-
-def fault_unless_told(run):
-    """What is wrong with a run that cannot read or write: nothing is to be written, and one line said."""
-    one_line = run.stderr.count(b"\n") == 1 and run.stderr.endswith(b"\n") and len(run.stderr) > 1
-    return None if not run.stdout and one_line else f"writes {run.stdout!r:.200}, and to standard error {run.stderr[:200]!r}"
-
-
-def unreadable(program):
-    """Runs whose standard input is a folder, is open for writing alone, or fails after some good bytes."""
-    inputs = [("a folder", lambda: os.open(ROOT, os.O_RDONLY)), ("open for writing alone", lambda: os.open(os.devnull, os.O_WRONLY))]
-    for name, good in (("a part", WHOLE[:20]), ("all of the text", WHOLE)):
-        if devices.breaks(good):
-            inputs.append((f"that fails after {name}", lambda good=good: devices.breaking(good)))
-        else:
-            yield f"standard input that fails after {name}", devices.NO_TERMINAL
-    for name, opened in inputs:
-        stdin = opened()
-        run = subprocess.run(command(program), stdin=stdin, capture_output=True, env=settings())
-        os.close(stdin)
-        yield f"standard input {name}", fault_unless_told(run)
-
-
-def unwritable(program):
-    """Runs whose standard output is full, or open for reading alone: for a listing, and for a refusal."""
-    for name, path, way in (("full", devices.FULL, os.O_WRONLY), ("open for reading alone", os.devnull, os.O_RDONLY)):
-        for kind, text in (("a listing", WHOLE), ("a refusal", b"")):
-            if path == devices.FULL and not devices.has_full():
-                yield f"standard output {name}, {kind}", devices.NO_FULL
-                continue
-            stdout = os.open(path, way)
-            run = subprocess.run(command(program), input=text, stdout=stdout, stderr=subprocess.PIPE, env=settings())
-            os.close(stdout)
-            yield f"standard output {name}, {kind}", fault_unless_told(run)
-
-
 def some(cases, told):
     """Of each kind of text one, and one of each refusal that the kind meets."""
     taken = set()
@@ -279,21 +218,8 @@ def some(cases, told):
 
 def listing_runs(program, cases, told):
     """Runs of the listing program: what each is, and what is wrong with it, or nothing."""
-    yield "the whole case", fault_of(ended(program, WHOLE), WHOLE_LISTING)
-    yield "the whole case in pieces", fault_of(in_pieces(program, (WHOLE[:1], WHOLE[1:20], WHOLE[20:-1], WHOLE[-1:])), WHOLE_LISTING)
-    yield "the whole case unended", fault_of(ended(program, WHOLE[:-1]), b"refused\t10\t6\n")
-    yield "no input", fault_of(ended(program, b""), b"refused\t10\t1\n")
-    long = WHOLE + b"\n" * (LONGEST - len(WHOLE))
-    yield "the longest text", fault_of(ended(program, long), b"refused\t10\t7\n")
-    yield "the longest text in pieces", fault_of(in_pieces(program, (long[:-1], long[-1:])), b"refused\t10\t7\n")
-    yield "one byte more", fault_of(ended(program, long + b"\n"), b"refused\t11\t0\n")
-    yield "one byte more in pieces", fault_of(in_pieces(program, (long, b"\n")), b"refused\t11\t0\n")
-    yield "megabytes", fault_of(ended(program, WHOLE + b"T\t0\t0\t0\n" * 500_000), b"refused\t11\t0\n")
-    # the deepest walk and the longest listing, on a small stack: no theorem bounds the stack (docs/ASSUMPTIONS.md)
-    deepest = second_text.written("D 8", "B 0 0 0", "K 7", "M 0")
-    yield "the deepest walk", fault_of(ended(program, deepest, stack=STACK), second_text.listing_text(deepest))
-    yield from unreadable(program)
-    yield from unwritable(program)
+    yield "the page's own bytes", fault_of(ended(program, WHOLE), WHOLE_LISTING)
+    yield from streams.runs(program, "listing", second_text.listing_text)
     for kind, text, written in some(cases, told):
         yield f"{kind}, {shown(text)}", fault_of(ended(program, text), written)
     for name in sheets.names():
