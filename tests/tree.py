@@ -34,9 +34,11 @@ from sources import KINDS, NAME, at, brings, code_of, document, named, names_in,
 
 LONGEST = 400
 # the left column of docs/DESIGN.md: document 01 as definitions, and what they rest on
-LAW = ("algebra", "forms", "verdicts", "page")
+LAW = ("algebra", "forms", "verdicts", "page", "pbm")
 # the kit's crates that call functions of C
 OUTSIDE = ("io", "libc", "os")
+# parts of programs that more than one of them has: libraries that call those, and that only programs rest on
+PARTS = ("items", "intake")
 # the documents that cite by file and name
 CITING = ("PROMISES.md", "THEORY.md", "PAGE.md")
 # those that give a theorem for each statement
@@ -238,9 +240,11 @@ def definitions_alone():
 
 
 def worldless():
-    """Nothing of the world outside stands below a library: docs/ASSUMPTIONS.md says that its calls rest on no function of C."""
+    """Nothing of the world outside stands below a library, but for the parts of programs: docs/ASSUMPTIONS.md says that its calls rest on no function of C."""
     for crate, below in sources.listed().items():
-        for name in OUTSIDE if not at(f"crates/{crate}/src/main.rt").is_file() or at(f"crates/{crate}/src/lib.rt").is_file() else ():
+        if crate in PARTS:
+            continue
+        for name in OUTSIDE + PARTS if not at(f"crates/{crate}/src/main.rt").is_file() or at(f"crates/{crate}/src/lib.rt").is_file() else ():
             if name in below:
                 yield f"crates.txt has {crate}, which is no program, rest on {name}"
 

@@ -154,7 +154,7 @@ BREAKS = {
     tree.worldless: [
         *((f"crates.txt has probe, which is no program, rest on {name}",
            ("crates.txt", "probe: page numbers verdicts", f"probe: page numbers verdicts {name}"), ("crates/probe/src/lib.rt", f"use {name}::more;\n"))
-          for name in ("io", "libc", "os")),
+          for name in ("io", "libc", "os", "intake")),
         ("crates.txt has numbers, which is no program, rest on io", ("crates.txt", "numbers:\n", "numbers: io\n"), (NUMBERS, "use io::more;\n")),
         ("crates.txt has listing, which is no program, rest on io",
          ("crates.txt", "listing: probe", "listing: probe io"), ("crates/listing/src/lib.rt", "pub use probe::fill;\nuse io::more;\n")),
