@@ -4,9 +4,10 @@
 
 It is run as a person runs it: on the page's whole case, on every sheet of sheets/, whose pictures are compared with the second program's rasters, on
 texts that are refused by each number, on what cannot be read or written, and without arguments. What it says of a sheet that weighs too much is held
-to the second program (tests/advice.py). A tree of its own, with a stand-in for `rt`, shows when the program is proved and built. And the picture that
-README.md begins with is the one that `sheet` draws, with the one that signs at the corners give beside it. A check that cannot be tried, since the
-machine lacks a device, is a fault, unless --without-devices is said (tests/devices.py).
+to the second program (tests/advice.py), and so is its picture for a printer; its files are complete or not there at all (tests/script_pictures.py). A
+tree of its own, with a stand-in for `rt`, shows when a program is proved and built. And the picture that README.md begins with is the one that `sheet`
+draws, with the one that signs at the corners give beside it. A check that cannot be tried, since the machine lacks a device, is a fault, unless
+--without-devices is said (tests/devices.py).
 """
 import argparse
 import importlib.machinery
@@ -21,6 +22,7 @@ import tempfile
 sys.dont_write_bytecode = True  # nothing is left in the tree
 import advice
 import devices
+import script_pictures
 import second
 import sheets
 from program import BUILT, ROOT
@@ -32,9 +34,10 @@ MARKS = {1: "██", 2: "  ", 3: "· "}
 QUARTERS = {"    ": " ", "█   ": "▘", " █  ": "▝", "██  ": "▀", "  █ ": "▖", "█ █ ": "▌", " ██ ": "▞", "███ ": "▛",
             "   █": "▗", "█  █": "▚", " █ █": "▐", "██ █": "▜", "  ██": "▄", "█ ██": "▙", " ███": "▟", "████": "█"}
 # what the usage says of status 2
-ENDS_WITH_2 = ("no FILE is named", "cannot be read", "there is no rt", "cannot be\nbuilt or started", "standard output cannot be written")
+ENDS_WITH_2 = ("options are not as above", "no FILE is named", "cannot be read", "OUT is\nFILE itself", "there is no rt", "cannot be built or started",
+               "standard\noutput or OUT cannot be written")
 # the ways to have it write, and what it says where it cannot
-WRITING = (["-"], ["--list", "-"], ["--help"])
+WRITING = (["-"], ["--list", "-"], ["--pbm", "-"], ["--help"])
 UNWRITTEN = "sheet: standard output cannot be written: "
 LEGEND = "[██] coloured: the curve may be here   [  ] above: f > 0 all over it   [· ] below: f < 0 all over it"
 PICTURE = f"""\
@@ -134,10 +137,10 @@ def command_checks():
         status, out, _ = run(file, env={**os.environ, "PYTHONIOENCODING": "ascii"})
         yield "a name that plain signs do not show", status == 0 and out.isascii() and rb"\xe9" in out
     known = [name + ".sheet" for name in sheets.names()]
-    usage = ["./sheet", "FILE", "--list", *known, *ENDS_WITH_2]
+    usage = ["./sheet", "FILE", "--list", "--pbm", "-o OUT", *known, *ENDS_WITH_2]
     status, out, err = run("--help")
     yield "the usage", (status, err) == (0, "") and all(name in out.decode() for name in usage)
-    for words in ([], ["--list"]):
+    for words in ([], ["--list"], [""]):
         status, out, err = run(*words)
         yield "no file", (status, out) == (2, b"") and all(name in err for name in usage) and err.endswith("\nsheet: no FILE is named\n")
     for name in sheets.names():
@@ -181,56 +184,71 @@ def unwritten_checks():
         yield from full_checks(env, kind)
 
 
-def build_checks():
-    """When the program is proved and built: in a tree of its own, where a stand-in for rt ends as it is told and notes that it ran."""
+# the words for each program, what is then written for the whole case, and the other program
+PROGRAMS = {"listing": (["-"], PICTURE.encode(), "picture"), "picture": (["--pbm", "-"], script_pictures.WHOLE_PICTURE, "listing")}
+# as rt does, it builds nothing where its stamp stands
+STAND_IN = """#!/bin/sh
+echo "$@" >> calls
+[ -f target/stamp/"$2" ] || cp "$BUILT"/"$2" target/bin/"$2"
+[ "$ENDS" = 0 ] && touch target/stamp/"$2"
+exit "$ENDS"
+"""
+
+
+def small_tree(tree):
+    """What the script needs, in a tree of its own, with a stand-in for rt that ends as it is told and notes that it ran."""
+    for place in ("crates/listing/src", "tests", "target/bin", "target/stamp", "rt"):
+        (tree / place).mkdir(parents=True)
+    modules = ("in_words", "program", "too_heavy", "whole_file")
+    for name in ("sheet", *(f"tests/{module}.py" for module in modules), "crates.txt", "crates/listing/src/main.rt"):
+        shutil.copy(ROOT / name, tree / name)
+    (tree / "rt" / "rt").write_text(STAND_IN)
+    (tree / "rt" / "rt").chmod(0o755)
+
+
+def build_checks(name):
+    """When a program is proved and built: in a tree of its own."""
     home = os.environ.get("RATTLE_HOME") or pathlib.Path(shutil.which("rt")).resolve().parent.parent
+    words, expected, other = PROGRAMS[name]
     with tempfile.TemporaryDirectory() as folder:
         tree = pathlib.Path(folder)
-        sources, target, program = tree / "crates" / "listing" / "src", tree / "target", tree / "target" / "bin" / "listing"
-        for place in (sources, tree / "tests", target / "bin", target / "stamp", tree / "rt"):
-            place.mkdir(parents=True)
-        for name in ("sheet", "tests/program.py", "tests/too_heavy.py", "crates.txt", "crates/listing/src/main.rt"):
-            shutil.copy(ROOT / name, tree / name)
-        # as rt does, it builds nothing where its stamp stands
-        (tree / "rt" / "rt").write_text("""#!/bin/sh
-echo "$@" >> calls
-[ -f target/stamp/listing ] || cp "$BUILT" target/bin/listing
-[ "$ENDS" = 0 ] && touch target/stamp/listing
-exit "$ENDS"
-""")
-        (tree / "rt" / "rt").chmod(0o755)
+        small_tree(tree)
+        sources, target, program = tree / "crates" / "listing" / "src", tree / "target", tree / "target" / "bin" / name
 
         def turn(ends=0):
-            """The status, whether the picture came, what was said, and how often rt ran."""
+            """The status, whether the sheet came, what was said, and what rt was asked for."""
             (tree / "calls").write_text("")
             env = {**os.environ, "PATH": f"{tree / 'rt'}{os.pathsep}{os.environ['PATH']}", "RATTLE_HOME": str(home), "ENDS": str(ends),
-                   "BUILT": str(BUILT / "listing")}
-            ended = subprocess.run([tree / "sheet", "-"], input=WHOLE, capture_output=True, env=env)
-            return ended.returncode, ended.stdout == PICTURE.encode(), ended.stderr.decode(), (tree / "calls").read_text().count("check listing\n")
+                   "BUILT": str(BUILT)}
+            ended = subprocess.run([tree / "sheet", *words], input=WHOLE, capture_output=True, env=env)
+            return ended.returncode, ended.stdout == expected, ended.stderr.decode(), (tree / "calls").read_text()
 
         def newer(path):
             """Gives a source a time after the program's."""
             late = program.stat().st_mtime_ns + 10 ** 9
             os.utime(path, ns=(late, late))
 
-        first = "sheet: the program is not built yet. It is proved and built now, once, which takes some minutes. target/sheet.log shows how far it is.\n"
-        again = "sheet: the program may be older than its sources. What changed is proved and built again.\n"
-        failed = "sheet: `rt check listing` ended with status 1, so no program is kept; target/sheet.log has what rt said\n"
-        yield "the first time it is built", turn() == (0, True, first, 1)
-        yield "the second time it is not", turn() == (0, True, "", 0)
+        first = (f"sheet: the program `{name}` is not built yet. It is proved and built now, once, which takes some minutes. "
+                 "target/sheet.log shows how far it is.\n")
+        again = f"sheet: the program `{name}` may be older than its sources. What changed is proved and built again.\n"
+        failed = f"sheet: `rt check {name}` ended with status 1, so no program is kept; target/sheet.log has what rt said\n"
+        once = f"check {name}\n"
+        yield f"{name}: the first time it is built", turn() == (0, True, first, once)
+        yield f"{name}: the second time it is not", turn() == (0, True, "", "")
         for path in (sources / "main.rt", sources, tree / "crates.txt"):
             newer(path)
-            yield f"{path.name} newer: it is built again", turn() == (0, True, again, 1)
-            yield f"{path.name} newer: once", turn() == (0, True, "", 0)
+            yield f"{name}: {path.name} newer: it is built again", turn() == (0, True, again, once)
+            yield f"{name}: {path.name} newer: once", turn() == (0, True, "", "")
         newer(sources / "main.rt")
-        yield "a build that fails", turn(1) == (2, False, again + failed, 1) and not program.exists()
-        yield "a build that failed is not used", turn(1) == (2, False, first + failed, 1) and not program.exists()
-        yield "a build that failed is mended", turn() == (0, True, first, 1)
-        (target / "stamp" / "listing").unlink()
-        yield "a program that rt did not pass", turn(1) == (2, False, again + failed, 1)
-        yield "a program that rt passes at last", turn() == (0, True, first, 1)
+        yield f"{name}: a build that fails", turn(1) == (2, False, again + failed, once) and not program.exists()
+        yield f"{name}: a build that failed is not used", turn(1) == (2, False, first + failed, once) and not program.exists()
+        yield f"{name}: a build that failed is mended", turn() == (0, True, first, once)
+        (target / "stamp" / name).unlink()
+        yield f"{name}: a program that rt did not pass", turn(1) == (2, False, again + failed, once)
+        yield f"{name}: a program that rt passes at last", turn() == (0, True, first, once)
         program.unlink()
-        yield "a program that was taken away", turn() == (0, True, first, 1)
+        yield f"{name}: a program that was taken away", turn() == (0, True, first, once)
+        yield f"{name}: it alone is built", not (target / "bin" / other).exists() and not (target / "stamp" / other).exists()
 
 
 def function_checks():
@@ -287,12 +305,15 @@ def main():
     options = argparse.ArgumentParser(description="Tries the script `sheet` as a person runs it.")
     devices.add_option(options)
     chosen = options.parse_args()
-    if not (BUILT / "listing").is_file():
-        sys.exit("script: target/bin/listing is not there: `rt check` proves and builds it")
+    for name in PROGRAMS:
+        if not (BUILT / name).is_file():
+            sys.exit(f"script: target/bin/{name} is not there: `rt check` proves and builds it")
     if not os.access(SCRIPT, os.X_OK):
         sys.exit("script: ./sheet is no file that can be run")
-    run("-", given=WHOLE)  # where a source is newer than the program, this proves and builds it, and says so
-    checks = [*command_checks(), *unwritten_checks(), *build_checks(), *function_checks(), *advice.checks(module()), *readme_checks()]
+    for words, *_ in PROGRAMS.values():
+        run(*words, given=WHOLE)  # where a source is newer than the program, this proves and builds it
+    checks = [*command_checks(), *unwritten_checks(), *build_checks("listing"), *build_checks("picture"), *function_checks(),
+              *advice.checks(module()), *script_pictures.checks(run, module(), REFUSALS), *readme_checks()]
     untried = devices.left_out(checks, chosen)
     wrong = [(name, good) for name, good in checks if good is not True and (name, good) not in untried]
     for name, good in wrong:
