@@ -2,16 +2,16 @@
 use mathlib.Core.Path.{_≡_, refl, sym, _∙_, ap}
 use mathlib.Core.Bool.{Bool, true, false, cond, false≢true}
 use mathlib.Core.List.{List, [], _∷_}
-use Prim.Native.Nat.{ℕ, _*_, _≤_, _<_}
+use Prim.Native.Nat.{ℕ, _≤_, _<_}
 use native.Mathlib.Omega.{arith}
 use borrow.Author.Tests.{eq-eqb, ne-eqb}
 use lib.Dec.{ltb, eqb}
 use lib.ListN.{length, getD, drop}
-use Rattle.pbm.specs.Refusals.{Found, not-plain}
-use Rattle.pbm.specs.Steps.{size-then, opening-then, take-bits, found-in, found}
+use Rattle.pbm.specs.Refusals.{not-plain}
+use Rattle.pbm.specs.Steps.{size-then, is-magic, after-opening, after-height, after-width, found}
 use Rattle.header.specs.declared.Head.{Head}
 use Rattle.header.specs.declared.Size.{Size}
-use Rattle.header.specs.Steps.{is-magic, Opened, SizeTaken, HeadTaken}
+use Rattle.header.specs.Steps.{Opened, SizeTaken, HeadTaken}
 
 -- ---- `P1`, by its two bytes
 pub magic-short : (text : List ℕ) → length text < 2 → false ≡ is-magic text
@@ -34,21 +34,9 @@ magic-long [] e = absurd (false≢true e)
 magic-long (p ∷ []) e = absurd (false≢true e)
 magic-long (p ∷ n ∷ text) e = omega arith
 
--- ---- what follows each thing
-abbrev opened-then : ℕ → ℕ → List ℕ → Found
-opened-then w h text = found-in w h (take-bits (w * h) text)
-
-abbrev height-then : ℕ → ℕ → List ℕ → Found
-height-then w h text = opening-then text (opened-then w h)
-
-abbrev width-then : ℕ → List ℕ → Found
-width-then w text = size-then text (height-then w)
-
-by-magic : (text : List ℕ) {m : Bool} → is-magic text ≡ m → found text ≡ cond m (size-then (drop 2 text) width-then) not-plain
+by-magic : (text : List ℕ) {m : Bool} → is-magic text ≡ m → found text ≡ cond m (size-then (drop 2 text) after-width) not-plain
 unfolding found
-by-magic [] e = ap (λ m. cond m (size-then [] width-then) not-plain) e
-by-magic (p ∷ []) e = ap (λ m. cond m (size-then [] width-then) not-plain) e
-by-magic (p ∷ n ∷ text) e = ap (λ m. cond m (size-then text width-then) not-plain) e
+by-magic text e = ap (λ m. cond m (size-then (drop 2 text) after-width) not-plain) e
 
 -- ---- thing after thing: each is missing, or the next decides
 module _ (text : List ℕ) {m : Bool} (e : m ≡ is-magic text) where
@@ -68,15 +56,15 @@ module _ (text : List ℕ) {m : Bool} (e : m ≡ is-magic text) where
   head-other f z = none z (by-magic text (sym e ∙ f))
 
   module _ (f : m ≡ true) {wide : Size} (w : SizeTaken text 2 wide) where
-    by-width : {b : Bool} → wide .good ≡ b → found text ≡ cond b (width-then (w .exact) (drop (wide .next) text)) not-plain
-    by-width g = by-magic text (sym e ∙ f) ∙ w .step width-then ∙ rw g
+    by-width : {b : Bool} → wide .good ≡ b → found text ≡ cond b (after-width (w .exact) (drop (wide .next) text)) not-plain
+    by-width g = by-magic text (sym e ∙ f) ∙ w .step after-width ∙ rw g
 
     pub head-no-width : wide .good ≡ false → {r : Head} → (r .good ≡ false) × (r .next ≡ 0) → HeadTaken text r
     head-no-width g z = none z (by-width g)
 
     module _ (g : wide .good ≡ true) {high : Size} (h : SizeTaken text (wide .next) high) where
-      by-height : {b : Bool} → high .good ≡ b → found text ≡ cond b (height-then (w .exact) (h .exact) (drop (high .next) text)) not-plain
-      by-height i = by-width g ∙ h .step (height-then (w .exact)) ∙ rw i
+      by-height : {b : Bool} → high .good ≡ b → found text ≡ cond b (after-height (w .exact) (h .exact) (drop (high .next) text)) not-plain
+      by-height i = by-width g ∙ h .step (after-height (w .exact)) ∙ rw i
 
       pub head-no-height : high .good ≡ false → {r : Head} → (r .good ≡ false) × (r .next ≡ 0) → HeadTaken text r
       head-no-height i z = none z (by-height i)
@@ -85,7 +73,7 @@ module _ (text : List ℕ) {m : Bool} (e : m ≡ is-magic text) where
       head-read i o = record {
         wide = w .exact;
         high = h .exact;
-        step = by-height i ∙ o .step (opened-then (w .exact) (h .exact));
+        step = by-height i ∙ o .step (after-opening (w .exact) (h .exact));
         width-told = λ t. w .told g;
         height-told = λ t. h .told i;
         width-positive = λ t. w .positive g;

@@ -1,21 +1,15 @@
 -- What the contracts say of a text from some byte on. The definition of a plain PBM stands in `pbm`.
 use mathlib.Core.Path.{_≡_}
-use mathlib.Core.Bool.{Bool, true, false, _&&_, cond}
-use mathlib.Core.List.{List, [], _∷_}
+use mathlib.Core.Bool.{true, false, cond}
+use mathlib.Core.List.{List}
 use Prim.Native.Nat.{ℕ, _+_, _*_, _-_, _^_, _≤_, min}
-use lib.Dec.{ltb, eqb}
+use lib.Dec.{ltb}
 use lib.ListN.{length, take, drop}
 use Rattle.page.specs.SheetText.{is-digit}
 use Rattle.pbm.specs.Refusals.{Found, not-plain}
 use Rattle.pbm.specs.Steps.{leading, beyond, after-gap, is-parted, size-then, after-comment, opening-then, found-in, take-bits, found}
 use Rattle.header.specs.declared.Head.{Head}
 use Rattle.header.specs.declared.Size.{Size}
-
--- the text begins with `P1`
-abbrev pub is-magic : List ℕ → Bool
-is-magic [] = false
-is-magic (p ∷ []) = false
-is-magic (p ∷ n ∷ text) = eqb p 80 && eqb n 49
 
 -- ---- `gap_end`: r is where the gap from `at` on ends, further on only if there is one
 pub record GapPassed (text : List ℕ) (at r : ℕ) : Type 0 where

@@ -6,9 +6,10 @@ mod sizes;
 pub use gaps::is_white;
 ghost use mathlib.Core.Path.{_≡_};
 ghost use mathlib.Core.Bool.{false};
-ghost use Rattle.header.specs.Steps.{is-magic, HeadTaken};
+ghost use Rattle.pbm.specs.Steps.{is-magic};
+ghost use Rattle.header.specs.Steps.{HeadTaken};
 
-// The two sizes, none above 2^63, and where the digits begin; `good` says whether there is such a beginning.
+// The two sizes, one above 2^63 told as 2^63, and where the digits begin; `good` says whether the text is of the form that was looked for.
 pub struct Head {
     pub good: bool,
     pub width: u64,
@@ -16,7 +17,7 @@ pub struct Head {
     pub next: usize,
 }
 
-// A size, not above 2^63, and where it ends; zeros where there is none.
+// A size, one above 2^63 told as 2^63, and where it ends; zeros where there is none.
 struct Size {
     pub good: bool,
     pub value: u64,

@@ -1,6 +1,6 @@
 -- The digits `0` and `1`, white space among them: a scan for as many as there are takes them all, and what it took is digits, the last one at the end.
 use mathlib.Core.Path.{_≡_, refl, sym, _∙_, ap, subst₂}
-use mathlib.Core.Bool.{Bool, true, false, _||_, false≢true}
+use mathlib.Core.Bool.{Bool, true, false, false≢true}
 use mathlib.Core.List.{List, [], _∷_, _++_}
 use Prim.Native.Nat.{ℕ, zero, suc, _-_, _≤_}
 use native.Mathlib.Omega.{arith}
@@ -9,12 +9,8 @@ use lib.ListN.{length}
 use borrow.Author.Tests.{eqb-true}
 use Rattle.algebra.proofs.Choice.{and-left, and-right}
 use Rattle.verdicts.specs.Walking.{those}
-use Rattle.pbm.specs.Reading.{each, is-white, is-bit, bits-of}
+use Rattle.pbm.specs.Reading.{each, is-white, is-bit, is-among, bits-of}
 use Rattle.pbm.specs.Steps.{Bits, cut-short, complete, with-bit, take-bits}
-
--- a digit, or white space among them
-abbrev pub is-among : ℕ → Bool
-is-among b = is-white b || is-bit b
 
 -- ---- bytes: no digit is white space
 bit-stands : (b : ℕ) → is-bit b ≡ true → is-white b ≡ false

@@ -12,7 +12,7 @@ use Rattle.algebra.proofs.Choice.{and-left, and-right, cond-first}
 use Rattle.page.specs.SheetText.{all-digits, is-empty, amount}
 use Rattle.pbm.specs.Reading.{is-size, piece-text, gap-text, is-after, Parts, plain-text, bits-in, ArePlain, Picture, picture-of, IsPlain}
 use Rattle.pbm.specs.Refusals.{Found, not-plain, plain, Finds}
-use Rattle.pbm.specs.Steps.{size-then, opening-then, Bits, cut-short, complete, take-bits, found-in, found}
+use Rattle.pbm.specs.Steps.{size-then, Bits, cut-short, complete, take-bits, found-in, found, after-opening, after-height, after-width}
 use Rattle.pbm.specs.Facts.{OnePicture, FindsFound, OneFound}
 use Rattle.pbm.proofs.Gaps.{piece-parts, gap-parts}
 use Rattle.pbm.proofs.Sizes.{not-other, size-passed, Sized, size-found, opening-passed, Opened, opening-found}
@@ -21,16 +21,6 @@ use Rattle.pbm.proofs.Bits.{bits-taken, Taken, taken}
 -- ---- a text of seven parts, as a scan meets them
 regrouped : (a b c d e f g : List ℕ) → 80 ∷ 49 ∷ a ++ b ++ c ++ d ++ e ++ f ++ g ≡ 80 ∷ 49 ∷ (a ++ (b ++ (c ++ (d ++ (e ++ (f ++ g))))))
 regrouped a b c d e f g = simp append-assoc
-
--- ---- what is done with the text from each part on
-abbrev after-opening : ℕ → ℕ → List ℕ → Found
-after-opening w h u = found-in w h (take-bits (w * h) u)
-
-abbrev after-height : ℕ → ℕ → List ℕ → Found
-after-height w h u = opening-then u (after-opening w h)
-
-abbrev after-width : ℕ → List ℕ → Found
-after-width w u = size-then u (after-height w)
 
 -- ---- a plain PBM is found: w columns and n rows
 module _ (t : Parts) (h : ArePlain t) where

@@ -1,6 +1,6 @@
 -- How long the text of a picture is: as long as 7 asks.
 use mathlib.Core.Path.{_≡_, refl, sym, _∙_, ap, ap₂}
-use mathlib.Core.Bool.{Bool, true, false, _||_}
+use mathlib.Core.Bool.{true, false, _||_, or-true}
 use mathlib.Core.List.{List, [], _∷_, _++_, flatMap, List·Memᴰ, List·Memᴰ·head, List·Memᴰ·tail, append-nil}
 use Prim.Native.Nat.{ℕ, zero, suc, _+_, _*_, _-_, _/_, _%_, _^_, _<_}
 use native.Mathlib.Nat as Nat
@@ -44,10 +44,6 @@ unfolding span
 length-span n = length-run 0 (n - 0) ∙ Nat.sub-zero n
 
 -- ---- where a line of a row ends: after 70, 140, .. digits, and after the last
-or-true : (a : Bool) → (a || true) ≡ true
-or-true true = refl
-or-true false = refl
-
 pub ends-full : (k p : ℕ) → (p + 1) % 70 ≡ 0 → ends-line k p ≡ true
 ends-full k p h = ap (λ b. b || eqb (p + 1) (2 ^ k)) (eq-eqb ((p + 1) % 70) 0 h)
 

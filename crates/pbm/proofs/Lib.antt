@@ -1,4 +1,5 @@
 mod Samples
+mod PictureSamples
 pub mod Lengths
 pub mod Gaps
 pub mod Sizes

@@ -1,10 +1,9 @@
 -- What is written of a raster is the plain PBM of a picture of its depth, whose mask is the raster's.
 use mathlib.Core.Path.{_≡_, refl, sym, _∙_, ap, ap₂}
-use mathlib.Core.Bool.{_&&_, _||_}
+use mathlib.Core.Bool.{_||_}
 use mathlib.Core.List.{List, [], _∷_, _++_, map, append-assoc}
 use Prim.Native.Nat.{ℕ, zero, suc, _+_, _*_, _-_, _^_, _≤_}
 use native.Mathlib.Omega.{arith}
-use lib.Dec.{eqb}
 use lib.ListN.{length, getD}
 use lib.Pow.{pow-pos}
 use Rattle.algebra.specs.Sum.{run, span, _⋯_}
@@ -13,14 +12,14 @@ use Rattle.verdicts.specs.Walking.{those}
 use Rattle.page.specs.ListingText.{decimal}
 use Rattle.pbm.specs.Writing.{bit, head-text, digit, picture-text, raster-mask}
 use Rattle.pbm.specs.Reading.{is-white, is-bit, white, last, Parts, plain-text, bits-in, ArePlain, Picture, picture-of, mask, bits-of}
-use Rattle.pbm.specs.Refusals.{depths}
+use Rattle.pbm.specs.Refusals.{has-side, depths}
 use Rattle.pbm.specs.Facts.{WrittenReturns}
 use Rattle.pbm.proofs.Sides.{amount-decimal, decimal-size}
 use Rattle.pbm.proofs.Masks.{table, table-long, table-flat, map-first, mask-turned}
 use Rattle.pbm.proofs.Digits.{each-left, bits-LF, rows-bits, rows-alone, before-last, rows-end, digit-bit}
 
 -- ---- a picture with 2^k columns and rows has the depth k
-sides : (k : ℕ) → k ≤ 7 → those (λ j. eqb (2 ^ k) (2 ^ j) && eqb (2 ^ k) (2 ^ j)) (0 ⋯ 7) ≡ k ∷ []
+sides : (k : ℕ) → k ≤ 7 → those (has-side (2 ^ k) (2 ^ k)) (0 ⋯ 7) ≡ k ∷ []
 unfolding those run span _⋯_
 sides zero h = refl
 sides (suc zero) h = refl

@@ -8,13 +8,13 @@ use borrow.Author.Tests.{eqb-true, not-true}
 use Rattle.algebra.proofs.Choice.{and-left, and-right, and-both, cond-first}
 use Rattle.page.specs.SheetText.{is-digit, all-digits, is-empty, amount}
 use Rattle.pbm.specs.Reading.{each, is-white, ends-comment, Piece, white, comment, is-piece, piece-text, Gap, is-gap, gap-text, is-size, Picture}
-use Rattle.pbm.specs.Refusals.{Found, not-plain, plain, is-other}
+use Rattle.pbm.specs.Refusals.{Found, not-plain, plain, is-not-plain}
 use Rattle.pbm.specs.Steps.{leading, beyond, after-gap, is-parted, size-then, after-comment, opening-then}
 use Rattle.pbm.proofs.Gaps.{digit-low, high-stands, parted-low, gap-passed, gap-parts, parted}
 
 -- ---- a picture is not the want of one
 pub not-other : {P : Picture} → not-plain ≡ plain P → ⊥
-not-other e = subst T (ap is-other e) tt
+not-other e = subst T (ap is-not-plain e) tt
 
 -- ---- a run of digits, up to what parts it from the next thing
 run-stops : (u : List ℕ) → is-parted u ≡ true → (leading is-digit u ≡ []) × (beyond is-digit u ≡ u)

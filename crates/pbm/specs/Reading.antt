@@ -57,6 +57,10 @@ is-size f = not (is-empty f) && all-digits f && not (eqb (amount 0 f) 0)
 abbrev pub is-bit : ℕ → Bool
 is-bit b = eqb b 48 || eqb b 49
 
+-- what may stand among the digits
+abbrev pub is-among : ℕ → Bool
+is-among b = is-white b || is-bit b
+
 -- the bits that the digits among some bytes write
 abbrev pub bits-of : List ℕ → List ℕ
 bits-of bytes = map (λ b. b - 48) (those is-bit bytes)
@@ -66,8 +70,8 @@ abbrev pub is-after : List ℕ → Bool
 is-after [] = true
 is-after (b ∷ bs) = is-white b
 
--- ---- the parts of a plain PBM: `P1`, the width, the height, the white space that opens the digits (a comment may stand before it), the digits, the
--- last one by itself, and what follows
+-- ---- the parts of a plain PBM: `P1`, the width, the height, the white space that opens the digits (a comment may stand before it), the digits with
+-- what stands among them, the last digit by itself, and what follows
 pub record Parts : Type 0 where
   pub before-width : Gap
   pub width : List ℕ
@@ -93,7 +97,7 @@ pub record ArePlain (t : Parts) : Type 0 where
   pub height-parted : is-gap (t .before-height) ≡ true
   pub height-written : is-size (t .height) ≡ true
   pub opened : is-piece (t .opening) ≡ true
-  pub digits-alone : each (λ b. is-white b || is-bit b) (t .digits) ≡ true
+  pub digits-alone : each is-among (t .digits) ≡ true
   pub ends-in-digit : is-bit (t .last-digit) ≡ true
   pub complete : length (bits-in t) ≡ amount 0 (t .width) * amount 0 (t .height)
   pub followed : is-after (t .after) ≡ true

@@ -32,18 +32,22 @@ abbrev pub Finds : List ℕ → Found → Type 0
 Finds text not-plain = (P : Picture) → IsPlain text P → ⊥
 Finds text (plain P) = IsPlain text P
 
-abbrev pub is-other : Found → Bool
-is-other not-plain = true
-is-other (plain P) = false
+abbrev pub is-not-plain : Found → Bool
+is-not-plain not-plain = true
+is-not-plain (plain P) = false
 
--- a text that is no plain PBM has no sizes and no mask
+-- a text that is no plain PBM has no sizes and no mask: the rows after 12 do not hold of it, whatever their order
 abbrev pub if-plain : Found → (Picture → Bool) → Bool
 if-plain not-plain holds = false
 if-plain (plain P) holds = holds P
 
--- the depths of a picture: those up to 7 for which it has 2^k columns and 2^k rows; there is one, or none
+-- 2^k columns and 2^k rows
+abbrev pub has-side : ℕ → ℕ → ℕ → Bool
+has-side w h k = eqb w (2 ^ k) && eqb h (2 ^ k)
+
+-- the depths of a picture, up to 7: there is one, or none
 unfoldable pub depths : Picture → List ℕ
-depths P = those (λ k. eqb (P .width) (2 ^ k) && eqb (P .height) (2 ^ k)) (0 ⋯ 7)
+depths P = those (has-side (P .width) (P .height)) (0 ⋯ 7)
 
 abbrev pub picture-mask : Picture → List ℕ
 picture-mask P = mask (P .width) (P .bits)
@@ -52,7 +56,7 @@ picture-mask P = mask (P .width) (P .bits)
 unfoldable pub read-table : Found → ℕ → List Row
 read-table f n =
     -- not a plain PBM, a size of 0, or data cut short
-    (12 when is-other f)
+    (12 when is-not-plain f)
     -- sizes unequal or not a power of two up to 128
     ∷ (13 when if-plain f (λ P. is-empty (depths P)))
     -- a place shorter than the mask

@@ -3,6 +3,7 @@ use mathlib.Core.Bool.{Bool, false, not, _&&_, _||_, cond}
 use mathlib.Core.List.{List, [], _∷_}
 use Prim.Native.Nat.{ℕ, zero, suc, _*_, _-_}
 use lib.Dec.{eqb}
+use lib.ListN.{drop}
 use Rattle.page.specs.SheetText.{is-digit, is-empty, amount}
 use Rattle.pbm.specs.Reading.{is-white, ends-comment, is-bit, is-after}
 use Rattle.pbm.specs.Refusals.{Found, not-plain, plain}
@@ -66,15 +67,20 @@ abbrev pub found-in : ℕ → ℕ → Bits → Found
 found-in w h cut-short = not-plain
 found-in w h (complete bits rest) = cond (is-after rest) (plain (record { width = w; height = h; bits = bits })) not-plain
 
--- ---- the whole text
-abbrev pub magic-then : List ℕ → (List ℕ → Found) → Found
-magic-then [] rest = not-plain
-magic-then (p ∷ []) rest = not-plain
-magic-then (p ∷ n ∷ text) rest = cond (eqb p 80 && eqb n 49) (rest text) not-plain
+-- ---- the whole text: `P1`, and what follows each thing
+abbrev pub is-magic : List ℕ → Bool
+is-magic [] = false
+is-magic (p ∷ []) = false
+is-magic (p ∷ n ∷ text) = eqb p 80 && eqb n 49
+
+abbrev pub after-opening : ℕ → ℕ → List ℕ → Found
+after-opening w h text = found-in w h (take-bits (w * h) text)
+
+abbrev pub after-height : ℕ → ℕ → List ℕ → Found
+after-height w h text = opening-then text (after-opening w h)
+
+abbrev pub after-width : ℕ → List ℕ → Found
+after-width w text = size-then text (after-height w)
 
 unfoldable pub found : List ℕ → Found
-found text =
-    magic-then text (λ text.
-    size-then text (λ w text.
-    size-then text (λ h text.
-    opening-then text (λ text. found-in w h (take-bits (w * h) text)))))
+found text = cond (is-magic text) (size-then (drop 2 text) after-width) not-plain

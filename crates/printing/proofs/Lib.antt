@@ -5,3 +5,4 @@ pub mod Columns
 pub mod Pictures
 pub mod Promises
 mod Samples
+pub mod Facts

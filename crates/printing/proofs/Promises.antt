@@ -1,5 +1,6 @@
 -- The promise of `write_pbm`: what an answer states is the request's number and count, and no second outcome satisfies it.
 use mathlib.Core.Path.{_≡_, sym, _∙_, ap}
+use mathlib.Core.Bool.{Bool, true, false}
 use mathlib.Core.List.{List}
 use Prim.Native.Nat.{ℕ}
 use lib.ListN.{length}
@@ -12,6 +13,11 @@ use Rattle.printing.specs.declared.Printed.{Printed}
 use Rattle.printing.specs.declared.Printed.the-variants as Printed
 use Rattle.printing.specs.Answers.{printed, printed-place, states-printing, counted}
 use Rattle.printing.specs.Promises.{PrintPromise, OnePrint}
+
+-- a refusal and not a text
+abbrev pub is-refused : Printed → Bool
+is-refused (Printed.Bytes n) = false
+is-refused (Printed.Refused n) = true
 
 module _ (k : ℕ) (raster old : List ℕ) where
   -- it is kept by the definition's answer and place

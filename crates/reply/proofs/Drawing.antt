@@ -1,6 +1,5 @@
 -- The picture of an accepted text: its raster, and what is written of it.
 use mathlib.Core.Path.{_≡_, sym, _∙_, ap, subst}
-use mathlib.Core.Bool.{Bool, true, false}
 use mathlib.Core.List.{List, _++_}
 use Prim.Native.Nat.{ℕ, zero, suc, _^_, _≤_}
 use native.Mathlib.Omega.{arith}
@@ -22,6 +21,7 @@ use Rattle.printing.specs.declared.Printed.{Printed}
 use Rattle.printing.specs.declared.Printed.the-variants as Printed
 use Rattle.printing.specs.Answers.{printed, printed-place, states-printing}
 use Rattle.printing.specs.Promises.{PrintPromise}
+use Rattle.printing.proofs.Promises.{is-refused}
 use Rattle.printing.proofs.Refusing.{passes}
 use Rattle.reading.specs.declared.Reading.{Reading}
 use Rattle.reading.specs.Answers.{reading-of}
@@ -51,11 +51,6 @@ text-short (suc (suc (suc (suc (suc (suc (suc (suc k)))))))) h = absurd (omega a
 pub painted-from : {sheet : Reading} (w : Said) → sheet ≡ reading-of (accepted w) → (old : List ℕ) {now : List ℕ} {r : Tallied}
     → RasterPromise (sheet-of (sheet .d) (take (count (sheet .d)) (sheet .coefficients)) (sheet .x) (sheet .y) (sheet .s) (sheet .k)) (sheet .mode) old r now → RasterPromise (sheet-in w) (w .mode) old r now
 painted-from w e old {now} {r} p = of-said (λ S mode. RasterPromise S mode old r now) w e p
-
--- a refusal and not a picture
-abbrev is-refused : Printed → Bool
-is-refused (Printed.Bytes n) = false
-is-refused (Printed.Refused n) = true
 
 module _ (w : Said) (passed : refusal (to-read w) ≡ 0) where
   abbrev pub cells : List ℕ

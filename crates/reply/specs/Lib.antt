@@ -1,4 +1,4 @@
--- The answer of the listing program's one call, and its promise.
+-- What the calls of the listing program and of the program `picture` answer, and their promises.
 pub mod Answers
 pub mod Promises
 pub mod Steps

@@ -1,6 +1,6 @@
 -- Writing then reading: the text that was written is read as the plain PBM that it is.
 use mathlib.Core.Path.{_≡_, refl, sym, _∙_, ap, ap₂, subst}
-use mathlib.Core.Bool.{Bool, true, false, cond}
+use mathlib.Core.Bool.{cond}
 use mathlib.Core.List.{List, _++_}
 use Prim.Native.Nat.{ℕ, zero, suc, _^_, _≤_, _<_}
 use borrow.Author.Tests.{lt-ltb, le-ltb}
@@ -18,17 +18,13 @@ use Rattle.printing.specs.declared.Printed.{Printed}
 use Rattle.printing.specs.declared.Printed.the-variants as Printed
 use Rattle.printing.specs.Answers.{printed, printed-place, states-printing}
 use Rattle.printing.specs.Promises.{PrintPromise}
+use Rattle.printing.proofs.Promises.{is-refused}
 use Rattle.printing.proofs.Refusing.{Passed, passed}
 use Rattle.scanning.specs.declared.Scanned.{Scanned}
 use Rattle.scanning.specs.declared.Scanned.the-variants as Scanned
 use Rattle.scanning.specs.Answers.{scanned, scanned-place}
 use Rattle.scanning.specs.Promises.{ScanPromise}
 use Rattle.returning.specs.Returning.{WriteThenRead, WrittenRefused}
-
--- a refusal and not a text
-abbrev is-refused : Printed → Bool
-is-refused (Printed.Bytes n) = false
-is-refused (Printed.Refused n) = true
 
 -- ---- where bytes were written nothing was refused, and they are the text
 by-number : (m : ℕ) {n l : ℕ} → Printed.Bytes n ≡ unless m Printed.Refused (Printed.Bytes l) → (m ≡ 0) × (n ≡ l)

@@ -11,13 +11,13 @@ use Rattle.scanning.specs.declared.Scanned.{Scanned}
 use Rattle.scanning.specs.declared.Scanned.the-variants as Scanned
 use Rattle.scanning.specs.Promises.{ScanPromise}
 
--- whatever the raster's bytes and the places: where n bytes were written, reading those n bytes gives the depth and the raster's mask, and leaves the later bytes
+-- whatever the raster's bytes: where n bytes were written, reading those n bytes into a place no shorter than the mask gives the depth and the raster's mask, and leaves the later bytes
 abbrev pub WriteThenRead : Type 0
 WriteThenRead = (k : ℕ) (raster old : List ℕ) (n : ℕ) (now : List ℕ) → PrintPromise k raster old (Printed.Bytes n) now
     → (place : List ℕ) (r : Scanned) (after : List ℕ) → ScanPromise (take n now) place r after → 4 ^ k ≤ length place
     → (r ≡ Scanned.Depth k) × (after ≡ raster-mask k raster ++ drop (4 ^ k) place)
 
--- and they are refused by 7 alone, where the place is shorter than the mask
+-- and into a shorter place they are refused by 7; so what is written is refused by no other number
 abbrev pub WrittenRefused : Type 0
 WrittenRefused = (k : ℕ) (raster old : List ℕ) (n : ℕ) (now : List ℕ) → PrintPromise k raster old (Printed.Bytes n) now
     → (place : List ℕ) (r : Scanned) (after : List ℕ) → ScanPromise (take n now) place r after → length place < 4 ^ k → (r ≡ Scanned.Refused 7) × (after ≡ place)

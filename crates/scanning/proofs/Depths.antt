@@ -17,14 +17,10 @@ use Rattle.verdicts.specs.Walking.{those}
 use Rattle.verdicts.proofs.Lists.{those-first, those-cong}
 use Rattle.page.specs.SheetText.{is-empty}
 use Rattle.pbm.specs.Reading.{Picture}
-use Rattle.pbm.specs.Refusals.{depths}
+use Rattle.pbm.specs.Refusals.{has-side, depths}
 use Rattle.scanning.specs.Steps.{depth-or}
 
--- both sizes are 2^k
-abbrev pub has-side : ℕ → ℕ → ℕ → Bool
-has-side w h k = eqb w (2 ^ k) && eqb h (2 ^ k)
-
--- one of them is not
+-- one of the sizes is not 2^k
 pub no-width : (w h k : ℕ) → (w ≡ 2 ^ k → ⊥) → has-side w h k ≡ false
 no-width w h k n = ap (λ b. b && eqb h (2 ^ k)) (ne-eqb w (2 ^ k) n)
 

@@ -7,3 +7,4 @@ pub mod Pictures
 pub mod Promises
 pub mod Answering
 pub mod Samples
+pub mod Facts

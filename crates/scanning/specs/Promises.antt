@@ -11,7 +11,7 @@ use Rattle.scanning.specs.Answers.{scanned, scanned-place, states-scan, 
 abbrev pub ScanOf : Found → List ℕ → Scanned → List ℕ → Type 0
 ScanOf f old r now = (r ≡ scanned f (length old)) × (states-scan r ≡ sized f (length old)) × (now ≡ scanned-place f old)
 
--- whatever the text is by the grammar, the plain PBM of a picture or none: the answer is that of the definition, its case states the request's number and depth, and every byte of the place is the
+-- whatever the text is by the grammar, the plain PBM of a picture or none (that it is one of these, and of one alone, is `FindsFound` and `OneFound` of `pbm`): the answer is that of the definition, its case states the request's number and depth, and every byte of the place is the
 -- definition's
 abbrev pub ScanPromise : List ℕ → List ℕ → Scanned → List ℕ → Type 0
 ScanPromise text old r now = (f : Found) → Finds text f → ScanOf f old r now

@@ -1,15 +1,14 @@
 -- What the contracts of inner functions say. None of it is the request's.
 use mathlib.Core.Path.{_≡_}
-use mathlib.Core.Bool.{Bool, true, _&&_, cond}
+use mathlib.Core.Bool.{Bool, true, cond}
 use mathlib.Core.List.{List, _∷_}
 use Prim.Native.Nat.{ℕ, _+_, _*_, _-_, _^_, _≤_, _<_, min}
-use lib.Dec.{eqb}
 use lib.ListN.{length, getD, take, drop}
 use lib.Seq.{sets}
 use Rattle.algebra.specs.Sum.{_⋯_}
 use Rattle.verdicts.specs.Walking.{those}
 use Rattle.pbm.specs.Reading.{is-bit, bits-of, Picture, mask}
-use Rattle.pbm.specs.Refusals.{not-plain, plain}
+use Rattle.pbm.specs.Refusals.{not-plain, plain, has-side}
 use Rattle.pbm.specs.Steps.{cut-short, complete, take-bits, found-in, found}
 use Rattle.header.specs.declared.Head.{Head}
 use Rattle.scanning.specs.declared.Data.{Data}
@@ -20,7 +19,7 @@ bits-ahead text = bits-of text
 
 -- ---- `depth_of`
 abbrev pub depth-or : ℕ → ℕ → ℕ
-depth-or w h = getD (those (λ k. eqb w (2 ^ k) && eqb h (2 ^ k)) (0 ⋯ 7)) 0 8
+depth-or w h = getD (those (has-side w h) (0 ⋯ 7)) 0 8
 
 -- ---- `take_data`
 pub record DataTaken (text : List ℕ) (at count : ℕ) (r : Data) : Type 0 where

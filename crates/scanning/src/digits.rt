@@ -1,4 +1,4 @@
-// The digits: white space may stand among them, and what follows the last one begins with white space.
+// The digits: white space may stand among them, and what follows the last one, if anything does, begins with white space.
 use crate::Data;
 use header::is_white;
 ghost use mathlib.Core.Path.{_≡_};
@@ -39,7 +39,7 @@ fn count_of(byte: u8) -> u64
     if is_bit(byte) { 1 } else { 0 }
 }
 
-// The digits from `at` on, so many as are to come.
+// So many digits from `at` on, with what stands among them: where the last one ends.
 fn take_data(text: &[u8], at: usize, count: u64) -> Data
     requires { ⌜ at ≤ length (now text) ⌝ }
     ensures { λ r. ⌜ DataTaken (now (text .entry)) at count r ⌝ }

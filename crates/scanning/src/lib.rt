@@ -31,7 +31,7 @@ fn no_picture() -> Head
     }
 }
 
-// The sizes of a plain PBM, none above 2^63, and where its digits begin; or that the text is none.
+// The sizes of a plain PBM, one above 2^63 told as 2^63, and where its digits begin; or that the text is none.
 fn picture_in(text: &[u8]) -> Head
     ensures { λ r. ⌜ PictureFound (now (text .entry)) r ⌝ }
 {

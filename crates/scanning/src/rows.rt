@@ -16,7 +16,7 @@ fn next_bit(text: &[u8], at: usize) -> usize
     i
 }
 
-// Sets the bytes of a row from `from` on, from the digits after `at`: where the last of them ends.
+// Sets the bytes of a row from `from` on, from the digits from `at` on: where the last of them ends.
 fn put_row(text: &[u8], at: usize, place: &mut [u8], from: usize, side: usize) -> usize
     requires { ⌜ (side ≤ length (bits-ahead (drop at (now text)))) × (from + side ≤ length (now place)) ⌝ }
     ensures { λ r. ⌜ RowTaken (now (text .entry)) at from side (now (place .entry)) (now (place .exit)) r ⌝ }
