@@ -64,39 +64,39 @@ column-alone false false = refl
 
 module _ (k : ℕ) (raster : List ℕ) where
   -- ---- a row, and the rows
-  row-bits : (q : ℕ) → bits-of (row-text k raster q) ≡ map (λ p. bit (getD raster (q * 2 ^ k + p) 0)) (span 0 (2 ^ k))
+  row-bits : (q : ℕ) → bits-of (row-text (2 ^ k) raster q) ≡ map (λ p. bit (getD raster (q * 2 ^ k + p) 0)) (span 0 (2 ^ k))
   unfolding row-text
-  row-bits q = bits-flatMap (digit-text k raster q) (span 0 (2 ^ k)) ∙ flatMap-one (span 0 (2 ^ k)) (λ p m. column-bits (eqb (getD raster (q * 2 ^ k + p) 0) 1) (ends-line k p))
+  row-bits q = bits-flatMap (digit-text (2 ^ k) raster q) (span 0 (2 ^ k)) ∙ flatMap-one (span 0 (2 ^ k)) (λ p m. column-bits (eqb (getD raster (q * 2 ^ k + p) 0) 1) (ends-line (2 ^ k) p))
 
-  pub rows-bits : bits-of (rows-text k raster) ≡ table (2 ^ k) (2 ^ k) (λ n p. bit (getD raster ((2 ^ k - 1 - n) * 2 ^ k + p) 0))
+  pub rows-bits : bits-of (rows-text (2 ^ k) raster) ≡ table (2 ^ k) (2 ^ k) (λ n p. bit (getD raster ((2 ^ k - 1 - n) * 2 ^ k + p) 0))
   unfolding rows-text table
   rows-bits = bits-flatMap _ (span 0 (2 ^ k)) ∙ flatMap-cong (span 0 (2 ^ k)) (λ n m. row-bits _)
 
-  row-alone : (q : ℕ) → each (λ b. is-white b || is-bit b) (row-text k raster q) ≡ true
+  row-alone : (q : ℕ) → each (λ b. is-white b || is-bit b) (row-text (2 ^ k) raster q) ≡ true
   unfolding row-text
-  row-alone q = each-flatMap (λ b. is-white b || is-bit b) (digit-text k raster q) (span 0 (2 ^ k)) (λ p m. column-alone (eqb (getD raster (q * 2 ^ k + p) 0) 1) (ends-line k p))
+  row-alone q = each-flatMap (λ b. is-white b || is-bit b) (digit-text (2 ^ k) raster q) (span 0 (2 ^ k)) (λ p m. column-alone (eqb (getD raster (q * 2 ^ k + p) 0) 1) (ends-line (2 ^ k) p))
 
-  pub rows-alone : each (λ b. is-white b || is-bit b) (rows-text k raster) ≡ true
+  pub rows-alone : each (λ b. is-white b || is-bit b) (rows-text (2 ^ k) raster) ≡ true
   unfolding rows-text
   rows-alone = each-flatMap (λ b. is-white b || is-bit b) _ (span 0 (2 ^ k)) (λ n m. row-alone _)
 
 -- ---- the last digit is that of the last column in the bottom row; what stands before it is the rows above, and the columns before
 pub before-last : ℕ → List ℕ → List ℕ
-before-last k raster = flatMap (λ n. row-text k raster (2 ^ k - 1 - n)) (span 0 (2 ^ k - 1)) ++ flatMap (digit-text k raster 0) (span 0 (2 ^ k - 1))
+before-last k raster = flatMap (λ n. row-text (2 ^ k) raster (2 ^ k - 1 - n)) (span 0 (2 ^ k - 1)) ++ flatMap (digit-text (2 ^ k) raster 0) (span 0 (2 ^ k - 1))
 
-pub rows-end : (k : ℕ) (raster : List ℕ) → rows-text k raster ≡ before-last k raster ++ (digit k raster 0 (2 ^ k - 1) ∷ 10 ∷ [])
+pub rows-end : (k : ℕ) (raster : List ℕ) → rows-text (2 ^ k) raster ≡ before-last k raster ++ (digit (2 ^ k) raster 0 (2 ^ k - 1) ∷ 10 ∷ [])
 unfolding rows-text before-last
 rows-end k raster =
     let some = pow-pos k in
     let e : 2 ^ k ≡ suc (2 ^ k - 1) = omega arith in
     let bottom : 2 ^ k - 1 - (2 ^ k - 1) ≡ 0 = omega arith in
-    let above = flatMap (λ n. row-text k raster (2 ^ k - 1 - n)) (span 0 (2 ^ k - 1)) in
-    ap (λ m. flatMap (λ n. row-text k raster (2 ^ k - 1 - n)) (span 0 m)) e ∙ below-next (λ n. row-text k raster (2 ^ k - 1 - n)) (2 ^ k - 1)
-    ∙ ap (λ l. above ++ l) (ap (row-text k raster) bottom ∙ row-parts k raster 0)
-    ∙ sym (append-assoc above (flatMap (digit-text k raster 0) (span 0 (2 ^ k - 1))) _)
+    let above = flatMap (λ n. row-text (2 ^ k) raster (2 ^ k - 1 - n)) (span 0 (2 ^ k - 1)) in
+    ap (λ m. flatMap (λ n. row-text (2 ^ k) raster (2 ^ k - 1 - n)) (span 0 m)) e ∙ below-next (λ n. row-text (2 ^ k) raster (2 ^ k - 1 - n)) (2 ^ k - 1)
+    ∙ ap (λ l. above ++ l) (ap (row-text (2 ^ k) raster) bottom ∙ row-parts k raster 0)
+    ∙ sym (append-assoc above (flatMap (digit-text (2 ^ k) raster 0) (span 0 (2 ^ k - 1))) _)
 
 -- it is a digit
-pub digit-bit : (k : ℕ) (raster : List ℕ) (q p : ℕ) → is-bit (digit k raster q p) ≡ true
+pub digit-bit : (k : ℕ) (raster : List ℕ) (q p : ℕ) → is-bit (digit (2 ^ k) raster q p) ≡ true
 digit-bit k raster q p = by (eqb (getD raster (q * 2 ^ k + p) 0) 1)
   where
     by : (coloured : Bool) → is-bit (48 + cond coloured 1 0) ≡ true

@@ -49,18 +49,18 @@ module _ (k : ℕ) (raster : List ℕ) where
     height = decimal (2 ^ k);
     opening = white 10;
     digits = before-last k raster;
-    last-digit = digit k raster 0 (2 ^ k - 1);
+    last-digit = digit (2 ^ k) raster 0 (2 ^ k - 1);
     after = 10 ∷ [];
   }
 
   made : picture-text k raster ≡ plain-text parts
   unfolding picture-text head-text plain-text
-  made = ap (λ l. head-text k ++ l) (rows-end k raster) ∙ regroup (decimal (2 ^ k)) (decimal (2 ^ k)) (before-last k raster) (digit k raster 0 (2 ^ k - 1) ∷ 10 ∷ [])
+  made = ap (λ l. head-text (2 ^ k) ++ l) (rows-end k raster) ∙ regroup (decimal (2 ^ k)) (decimal (2 ^ k)) (before-last k raster) (digit (2 ^ k) raster 0 (2 ^ k - 1) ∷ 10 ∷ [])
 
   -- its bits are those of the raster, the top row first
   bits-are : bits-in parts ≡ table (2 ^ k) (2 ^ k) (λ n p. bit (getD raster ((2 ^ k - 1 - n) * 2 ^ k + p) 0))
   unfolding bits-in
-  bits-are = sym (bits-LF (before-last k raster) (digit k raster 0 (2 ^ k - 1))) ∙ ap bits-of (sym (rows-end k raster)) ∙ rows-bits k raster
+  bits-are = sym (bits-LF (before-last k raster) (digit (2 ^ k) raster 0 (2 ^ k - 1))) ∙ ap bits-of (sym (rows-end k raster)) ∙ rows-bits k raster
 
   are-plain : ArePlain parts
   are-plain = record {

@@ -56,11 +56,11 @@ unfolding picture-text head-text rows-text row-text flatMap run span decimal dig
 only-one-is-coloured = (refl, refl)
 
 -- only 128 columns are broken: 70 digits and 58
-pub broken-row : row-text 7 [] 0 ≡ replicate 70 n0 ++ (LF ∷ replicate 58 n0 ++ (LF ∷ []))
+pub broken-row : row-text 128 [] 0 ≡ replicate 70 n0 ++ (LF ∷ replicate 58 n0 ++ (LF ∷ []))
 unfolding row-text flatMap run span
 broken-row = refl
 
-pub unbroken-row : row-text 6 [] 0 ≡ replicate 64 n0 ++ (LF ∷ [])
+pub unbroken-row : row-text 64 [] 0 ≡ replicate 64 n0 ++ (LF ∷ [])
 unfolding row-text flatMap run span
 unbroken-row = refl
 

@@ -81,9 +81,9 @@ lined-short m xs h = each-short m (lines xs) (short-lines h refl (omega arith))
 
 -- ---- a row: m digits are some lines of 70 and m % 70 digits more, and the last digit ends a line
 module _ (k : ℕ) (raster : List ℕ) (q : ℕ) where
-  lined-column : (p : ℕ) → p + 1 < 2 ^ k → Lined 70 (p % 70) (digit-text k raster q p) (suc p % 70)
+  lined-column : (p : ℕ) → p + 1 < 2 ^ k → Lined 70 (p % 70) (digit-text (2 ^ k) raster q p) (suc p % 70)
   lined-column p h =
-      let byte = no-LF (digit k raster q p) (omega arith) in
+      let byte = no-LF (digit (2 ^ k) raster q p) (omega arith) in
       let room : p % 70 < 70 = omega arith in
       elim (ℕ-discrete ((p + 1) % 70) 0) [
         | yes e ↦
@@ -94,18 +94,18 @@ module _ (k : ℕ) (raster : List ℕ) (q : ℕ) where
             rw (column-plain k raster q p (ends-not k p n (λ e. omega arith))) (goes byte room (none next))
       ]
 
-  lined-below : (m : ℕ) → m < 2 ^ k → Lined 70 0 (flatMap (digit-text k raster q) (span 0 m)) (m % 70)
-  lined-below zero h = rw (below-none (digit-text k raster q)) (none refl)
-  lined-below (suc m) h = rw (below-next (digit-text k raster q) m) (lined-++ (lined-below m (omega arith)) (lined-column m (omega arith)))
+  lined-below : (m : ℕ) → m < 2 ^ k → Lined 70 0 (flatMap (digit-text (2 ^ k) raster q) (span 0 m)) (m % 70)
+  lined-below zero h = rw (below-none (digit-text (2 ^ k) raster q)) (none refl)
+  lined-below (suc m) h = rw (below-next (digit-text (2 ^ k) raster q) m) (lined-++ (lined-below m (omega arith)) (lined-column m (omega arith)))
 
-  pub lined-row : Lined 70 0 (row-text k raster q) 0
+  pub lined-row : Lined 70 0 (row-text (2 ^ k) raster q) 0
   lined-row =
       let some = pow-pos k in
       let room : (2 ^ k - 1) % 70 < 70 = omega arith in
       rw (row-parts k raster q) (lined-++ (lined-below (2 ^ k - 1) (omega arith)) (goes (no-LF _ (omega arith)) room (ends refl (none refl))))
 
 -- ---- the head: `P1`, and a line of two sizes, at most 7 bytes
-lined-head : (k : ℕ) → k ≤ 7 → Lined 70 0 (head-text k) 0
+lined-head : (k : ℕ) → k ≤ 7 → Lined 70 0 (head-text (2 ^ k)) 0
 unfolding head-text
 lined-head k h =
     let n = length (decimal (2 ^ k)) in

@@ -11,32 +11,33 @@ use Rattle.page.specs.ListingText.{decimal}
 abbrev pub bit : ℕ → ℕ
 bit byte = cond (eqb byte 1) 1 0
 
--- ---- `P1` and LF; width, one space, height and LF. `P` is byte 80, `1` 49, a space 32, LF 10; there are 2^k columns and as many rows
+-- ---- of a raster with `side` columns and as many rows
+-- `P1` and LF; width, one space, height and LF. `P` is byte 80, `1` 49, a space 32, LF 10
 unfoldable pub head-text : ℕ → List ℕ
-head-text k = 80 ∷ 49 ∷ 10 ∷ decimal (2 ^ k) ++ (32 ∷ decimal (2 ^ k) ++ (10 ∷ []))
+head-text side = 80 ∷ 49 ∷ 10 ∷ decimal side ++ (32 ∷ decimal side ++ (10 ∷ []))
 
--- ---- the digit of column p in row q: `0` is byte 48, `1` byte 49
+-- the digit of column p in row q: `0` is byte 48, `1` byte 49
 abbrev pub digit : ℕ → List ℕ → ℕ → ℕ → ℕ
-digit k raster q p = 48 + bit (getD raster (q * 2 ^ k + p) 0)
+digit side raster q p = 48 + bit (getD raster (q * side + p) 0)
 
 -- one LF after every 70 digits of a row and at its end: it follows column p
 abbrev pub ends-line : ℕ → ℕ → Bool
-ends-line k p = eqb ((p + 1) % 70) 0 || eqb (p + 1) (2 ^ k)
+ends-line side p = eqb ((p + 1) % 70) 0 || eqb (p + 1) side
 
 -- digits unparted
 abbrev pub digit-text : ℕ → List ℕ → ℕ → ℕ → List ℕ
-digit-text k raster q p = digit k raster q p ∷ cond (ends-line k p) (10 ∷ []) []
+digit-text side raster q p = digit side raster q p ∷ cond (ends-line side p) (10 ∷ []) []
 
 unfoldable pub row-text : ℕ → List ℕ → ℕ → List ℕ
-row-text k raster q = flatMap (digit-text k raster q) (span 0 (2 ^ k))
+row-text side raster q = flatMap (digit-text side raster q) (span 0 side)
 
--- the rows, the top row first: the n-th from above, from 0 on, is row 2^k - 1 - n
+-- the rows, the top row first: the n-th from above, from 0 on, is row side - 1 - n
 unfoldable pub rows-text : ℕ → List ℕ → List ℕ
-rows-text k raster = flatMap (λ n. row-text k raster (2 ^ k - 1 - n)) (span 0 (2 ^ k))
+rows-text side raster = flatMap (λ n. row-text side raster (side - 1 - n)) (span 0 side)
 
--- ---- the text
+-- ---- the text: a raster of depth k has 2^k columns and as many rows
 unfoldable pub picture-text : ℕ → List ℕ → List ℕ
-picture-text k raster = head-text k ++ rows-text k raster
+picture-text k raster = head-text (2 ^ k) ++ rows-text (2 ^ k) raster
 
 -- the length that a place must have: each size, with 5 bytes about the two; for each row its digits, and an LF for each of its lines
 unfoldable pub text-length : ℕ → ℕ

@@ -7,28 +7,28 @@ use lib.Dec.{eqb}
 use lib.ListN.{length, length-append}
 use borrow.Author.Tests.{eq-eqb, ne-eqb}
 use Rattle.algebra.specs.Sum.{span}
-use Rattle.pbm.specs.Writing.{bit}
+use Rattle.pbm.specs.Writing.{bit, ends-line, row-text}
 use Rattle.writing.specs.Steps.{Put}
 use Rattle.writing.proofs.Puts.{put-two}
-use Rattle.printing.specs.Steps.{ends-at, digit-bytes, row-bytes}
+use Rattle.printing.specs.Steps.{digit-bytes}
 
 -- ---- where a line ends: after 70, 140, .. digits, and else where the row does
 module _ (side p : ℕ) where
-  pub ends-full : (p + 1) % 70 ≡ 0 → ends-at side p ≡ true
+  pub ends-full : (p + 1) % 70 ≡ 0 → ends-line side p ≡ true
   ends-full h = ap (λ b. b || eqb (p + 1) side) (eq-eqb ((p + 1) % 70) 0 h)
 
-  pub ends-else : ((p + 1) % 70 ≡ 0 → ⊥) → ends-at side p ≡ eqb (p + 1) side
+  pub ends-else : ((p + 1) % 70 ≡ 0 → ⊥) → ends-line side p ≡ eqb (p + 1) side
   ends-else h = ap (λ b. b || eqb (p + 1) side) (ne-eqb ((p + 1) % 70) 0 h)
 
 -- ---- a column
 module _ (side byte p : ℕ) where
-  ended : ends-at side p ≡ true → digit-bytes side byte p ≡ (48 + bit byte) ∷ 10 ∷ []
+  ended : ends-line side p ≡ true → digit-bytes side byte p ≡ (48 + bit byte) ∷ 10 ∷ []
   ended h = rw h
 
-  plain : ends-at side p ≡ false → digit-bytes side byte p ≡ (48 + bit byte) ∷ []
+  plain : ends-line side p ≡ false → digit-bytes side byte p ≡ (48 + bit byte) ∷ []
   plain h = rw h
 
-  pub ended-length : ends-at side p ≡ true → length (digit-bytes side byte p) ≡ 2
+  pub ended-length : ends-line side p ≡ true → length (digit-bytes side byte p) ≡ 2
   ended-length h = ap length (ended h)
 
   -- d is the digit
@@ -36,10 +36,10 @@ module _ (side byte p : ℕ) where
     digit-put : Put at ((48 + bit byte) ∷ []) old place end
     digit-put = subst (λ b. Put at (b ∷ []) old place end) e q
 
-    pub put-ended : {now : List ℕ} {r : ℕ} → ends-at side p ≡ true → Put end (10 ∷ []) place now r → Put at (digit-bytes side byte p) old now r
+    pub put-ended : {now : List ℕ} {r : ℕ} → ends-line side p ≡ true → Put end (10 ∷ []) place now r → Put at (digit-bytes side byte p) old now r
     put-ended {now} {r} h lf = subst (λ l. Put at l old now r) (sym (ended h)) (put-two digit-put lf)
 
-    pub put-plain : ends-at side p ≡ false → Put at (digit-bytes side byte p) old place end
+    pub put-plain : ends-line side p ≡ false → Put at (digit-bytes side byte p) old place end
     put-plain h = subst (λ l. Put at l old place end) (sym (plain h)) digit-put
 
 -- ---- lists of the same lengths come to the same length
@@ -49,8 +49,8 @@ same-lengths f g [] h = refl
 same-lengths f g (x ∷ xs) h = length-append (f x) (flatMap f xs) ∙ ap₂ _+_ (h x) (same-lengths f g xs h) ∙ sym (length-append (g x) (flatMap g xs))
 
 -- so room for a row is room for any other
-pub row-room : (side : ℕ) (raster : List ℕ) (from other end : ℕ) {room : ℕ} → end + length (row-bytes side raster other) ≤ room → end + length (row-bytes side raster from) ≤ room
-unfolding row-bytes
-row-room side raster from other end h =
-    let same : length (row-bytes side raster from) ≡ length (row-bytes side raster other) = same-lengths _ _ (span 0 side) (λ p. refl) in
+pub row-room : (side : ℕ) (raster : List ℕ) (q other end : ℕ) {room : ℕ} → end + length (row-text side raster other) ≤ room → end + length (row-text side raster q) ≤ room
+unfolding row-text
+row-room side raster q other end h =
+    let same : length (row-text side raster q) ≡ length (row-text side raster other) = same-lengths _ _ (span 0 side) (λ p. refl) in
     rw same h

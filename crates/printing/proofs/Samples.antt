@@ -1,6 +1,6 @@
 -- The answers and places of small pictures, computed: a raster whose bottom row is 1 2 and whose top row is 3 1, with a byte more than it needs.
 use mathlib.Core.Path.{_≡_, refl}
-use mathlib.Core.List.{List, [], _∷_, _++_, flatMap}
+use mathlib.Core.List.{List, [], _∷_, flatMap}
 use Prim.Native.Nat.{ℕ}
 use lib.ListN.{replicate}
 use Rattle.algebra.specs.Sum.{run, span}
@@ -10,7 +10,6 @@ use Rattle.pbm.specs.Writing.{head-text, row-text, rows-text, picture-text, tex
 use Rattle.pbm.specs.Refusals.{write-table}
 use Rattle.printing.specs.declared.Printed.the-variants as Printed
 use Rattle.printing.specs.Answers.{printed, printed-place, states-printing, counted}
-use Rattle.printing.specs.Steps.{row-bytes, rows-bytes}
 
 abbrev raster : List ℕ
 raster = 1 ∷ 2 ∷ 3 ∷ 1 ∷ 1 ∷ []
@@ -33,12 +32,3 @@ refusals = (refl, refl, refl, refl)
 refused : (states-printing (Printed.Refused 7) ≡ record { number = 7; bytes = 0 }) × (counted 1 raster 12 ≡ record { number = 7; bytes = 0 }) × (printed-place 1 raster (5 ∷ 6 ∷ []) ≡ 5 ∷ 6 ∷ [])
 unfolding counted printed-place write-table first text-length decimal digits-within
 refused = (refl, refl, refl)
-
--- by the side: the top row first, and of 128 columns a row has lines of 70 and of 58
-two-rows : rows-bytes 2 raster ≡ 48 ∷ 49 ∷ 10 ∷ 49 ∷ 48 ∷ 10 ∷ []
-unfolding rows-bytes row-bytes flatMap run span
-two-rows = refl
-
-wide-row : row-bytes 128 [] 0 ≡ replicate 70 48 ++ (10 ∷ replicate 58 48 ++ (10 ∷ []))
-unfolding row-bytes flatMap run span
-wide-row = refl

@@ -12,10 +12,6 @@ square-is k e = ap₂ _*_ e e ∙ sym (*-pow 2 2 k)
 pub row-within : (side q : ℕ) {n : ℕ} → q < side → side * side ≤ n → q * side + side ≤ n
 row-within side q h r = omega (arith, Nat.suc-mul q side, Nat.mul-le-mul-right {m = suc q} {n = side} side h)
 
--- and begins below what the square is below
-pub row-below : (side q : ℕ) {n m : ℕ} → q < side → side * side ≤ n → n < m → q * side < m
-row-below side q h r l = omega (arith, row-within side q h r)
-
 -- the square of a side, and of a side with the LFs of a row
 pub square-small : (side : ℕ) → side ≤ 128 → side * side ≤ 16_384
 square-small side h = Nat.mul-le-mul {n₁ = side} {m₁ = side} {n₂ = 128} {m₂ = 128} h h

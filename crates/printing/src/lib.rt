@@ -4,9 +4,9 @@ mod rows;
 
 ghost use Prim.Native.Nat.{_≤_};
 ghost use lib.ListN.{length};
+ghost use Rattle.pbm.specs.Writing.{head-text};
 ghost use Rattle.writing.specs.Steps.{Put};
 ghost use Rattle.printing.specs.Promises.{PrintPromise};
-ghost use Rattle.printing.specs.Steps.{head-bytes};
 
 // The number of bytes written, or a refusal.
 pub enum Printed {
@@ -20,8 +20,8 @@ const LF: u8 = 10;
 
 // `P1`, and the two sizes.
 fn put_head(place: &mut [u8], side: u32) -> usize
-    requires { ⌜ length (head-bytes side) ≤ length (now place) ⌝ }
-    ensures { λ r. ⌜ Put 0 (head-bytes side) (now (place .entry)) (now (place .exit)) r ⌝ }
+    requires { ⌜ length (head-text side) ≤ length (now place) ⌝ }
+    ensures { λ r. ⌜ Put 0 (head-text side) (now (place .entry)) (now (place .exit)) r ⌝ }
 {
     let first = writing::put_word(place, 0, b"P1\n");
     let second = writing::put_field(place, first, side, SPACE);

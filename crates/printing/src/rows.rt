@@ -3,9 +3,9 @@ use writing::put_byte;
 ghost use mathlib.Core.Path.{_≡_};
 ghost use Prim.Native.Nat.{_+_, _*_, _≤_, _<_};
 ghost use lib.ListN.{length};
-ghost use Rattle.pbm.specs.Writing.{bit};
+ghost use Rattle.pbm.specs.Writing.{bit, ends-line, row-text, rows-text};
 ghost use Rattle.writing.specs.Steps.{Put};
-ghost use Rattle.printing.specs.Steps.{ends-at, digit-bytes, row-bytes, rows-bytes};
+ghost use Rattle.printing.specs.Steps.{digit-bytes};
 
 const LF: u8 = 10;
 
@@ -19,7 +19,7 @@ fn digit(byte: u8) -> u8
 // Whether an LF follows column p of a row with so many columns.
 fn ends_line(p: usize, side: usize) -> bool
     requires { ⌜ p < side ⌝ }
-    ensures { λ r. ⌜ r ≡ ends-at side p ⌝ }
+    ensures { λ r. ⌜ r ≡ ends-line side p ⌝ }
 {
     let count = p + 1;
     if count % 70 == 0 {
@@ -40,11 +40,12 @@ fn put_digit(place: &mut [u8], at: usize, byte: u8, p: usize, side: usize) -> us
     end
 }
 
-// The row of which the raster has the bytes from `from` on.
-fn put_row(place: &mut [u8], at: usize, raster: &[u8], from: usize, side: usize) -> usize
-    requires { ⌜ (from + side ≤ length (now raster)) × (at + length (row-bytes side (now raster) from) ≤ length (now place)) ⌝ }
-    ensures { λ r. ⌜ Put at (row-bytes side (now (raster .entry)) from) (now (place .entry)) (now (place .exit)) r ⌝ }
+// Row q of the raster.
+fn put_row(place: &mut [u8], at: usize, raster: &[u8], q: usize, side: usize) -> usize
+    requires { ⌜ (q * side + side ≤ length (now raster)) × (at + length (row-text side (now raster) q) ≤ length (now place)) ⌝ }
+    ensures { λ r. ⌜ Put at (row-text side (now (raster .entry)) q) (now (place .entry)) (now (place .exit)) r ⌝ }
 {
+    let from = q * side;
     let mut end = at;
     let mut p = 0;
     while p < side {
@@ -56,13 +57,13 @@ fn put_row(place: &mut [u8], at: usize, raster: &[u8], from: usize, side: usize)
 
 // All rows: the n-th from above is row side - 1 - n of the raster.
 pub fn put_rows(place: &mut [u8], at: usize, raster: &[u8], side: usize) -> usize
-    requires { ⌜ (side * side ≤ length (now raster)) × (at + length (rows-bytes side (now raster)) ≤ length (now place)) ⌝ }
-    ensures { λ r. ⌜ Put at (rows-bytes side (now (raster .entry))) (now (place .entry)) (now (place .exit)) r ⌝ }
+    requires { ⌜ (side * side ≤ length (now raster)) × (at + length (rows-text side (now raster)) ≤ length (now place)) ⌝ }
+    ensures { λ r. ⌜ Put at (rows-text side (now (raster .entry))) (now (place .entry)) (now (place .exit)) r ⌝ }
 {
     let mut end = at;
     let mut n = 0;
     while n < side {
-        end = put_row(place, end, raster, (side - 1 - n) * side, side);
+        end = put_row(place, end, raster, side - 1 - n, side);
         n += 1;
     }
     end

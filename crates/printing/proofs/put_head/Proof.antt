@@ -6,7 +6,7 @@ use lib.ListN.{length}
 use Rattle.page.specs.ListingText.{decimal}
 use Rattle.writing.proofs.Puts.{put-two}
 use Rattle.writing.proofs.Fields.{field-end}
-use Rattle.printing.specs.Steps.{head-bytes}
+use Rattle.pbm.specs.Writing.{head-text}
 use Rattle.printing.proofs.Pictures.{head-length}
 use Rattle.printing.proofs.put_head.Statement.{statement}
 use Rattle.printing.proofs.put_head.Tie as tie
@@ -33,7 +33,7 @@ same-length : tie.Need-same-length
 same-length c = search needs
 
 returns : tie.Need-returns
-unfolding head-bytes
+unfolding head-text
 returns c =
     let z = c .before .before in
     let y = z .before .before .before .before in

@@ -6,7 +6,7 @@ use native.Mathlib.Omega.{arith}
 use lib.ListN.{length}
 use Rattle.pbm.specs.Refusals.{write-refusal}
 use Rattle.writing.proofs.Puts.{put-two}
-use Rattle.printing.specs.Steps.{head-bytes, rows-bytes}
+use Rattle.pbm.specs.Writing.{head-text, rows-text}
 use Rattle.printing.proofs.Squares.{square-is}
 use Rattle.printing.proofs.Refusing.{Passed, passed}
 use Rattle.printing.proofs.Pictures.{picture-is, picture-long}
@@ -24,7 +24,7 @@ passes c = passed _ _ _ (none c)
 -- head and rows have room
 fits : (c : tie.After-side) →
     let a = c .before .before .before .before .before .args in
-    length (head-bytes (c .side .result)) + length (rows-bytes (c .side .result) (a .raster .now)) ≤ length (a .place .now)
+    length (head-text (c .side .result)) + length (rows-text (c .side .result) (a .raster .now)) ≤ length (a .place .now)
 fits c =
     let a = c .before .before .before .before .before .args in
     omega (arith, picture-long (a .k) (c .side .ensures .0) (a .raster .now), passes (c .before) .room)

@@ -3,16 +3,16 @@ use borrow.Author.Needs.{needs}
 use mathlib.Core.Path.{_≡_, sym, _∙_}
 use mathlib.Core.Bool.{true, false}
 use native.Mathlib.Omega.{arith}
-use Rattle.printing.specs.Steps.{ends-at}
+use Rattle.pbm.specs.Writing.{ends-line}
 use Rattle.printing.proofs.Columns.{ended-length, put-ended, put-plain}
 use Rattle.printing.proofs.rows.put_digit.Statement.{statement}
 use Rattle.printing.proofs.rows.put_digit.Tie as tie
 
 -- whether an LF follows
-follows : (c : tie.Then1) → let a = c .before .before .before .before .before .before .before .before .args in ends-at (a .side) (a .p) ≡ true
+follows : (c : tie.Then1) → let a = c .before .before .before .before .before .before .before .before .args in ends-line (a .side) (a .p) ≡ true
 follows c = sym (c .before .ends-line .ensures) ∙ c .if1 .taken
 
-follows-not : (c : tie.Else1) → let a = c .before .before .before .before .before .before .before .before .args in ends-at (a .side) (a .p) ≡ false
+follows-not : (c : tie.Else1) → let a = c .before .before .before .before .before .before .before .before .args in ends-line (a .side) (a .p) ≡ false
 follows-not c = sym (c .before .ends-line .ensures) ∙ c .if1 .left
 
 digit-requires : tie.Need-digit-requires

@@ -1,19 +1,21 @@
 -- `printing::rows::put_row` meets its contract.
-use Prim.Native.Nat.{_+_, _-_}
+use Prim.Native.Nat.{_-_}
 use native.Mathlib.Omega.{arith}
-use lib.ListN.{getD}
 use Rattle.algebra.specs.Sum.{span}
 use Rattle.writing.proofs.Puts.{Putting, putting-start, put-length}
-use Rattle.printing.specs.Steps.{digit-bytes, row-bytes}
+use Rattle.pbm.specs.Writing.{digit-text, row-text}
 use Rattle.printing.proofs.Numbered.{numbered-room, numbered-next, numbered-end}
 use Rattle.printing.proofs.rows.put_row.Statement.{statement}
 use Rattle.printing.proofs.rows.put_row.Tie as tie
 
 abbrev Inv-loop : tie.InvT-loop
-Inv-loop place₀ at raster from side end₀ p₀ place end p = Putting (λ p. digit-bytes side (getD raster (from + p) 0) p) (span 0 side) at place₀ place end p
+Inv-loop place₀ at raster q side from end₀ p₀ place end p = Putting (digit-text side raster q) (span 0 side) at place₀ place end p
 
 abbrev μ-loop : tie.MeasureT-loop
-μ-loop place₀ at raster from side end₀ p₀ place end p = side - p
+μ-loop place₀ at raster q side from end₀ p₀ place end p = side - p
+
+mul-from : tie.Need-mul-from Inv-loop μ-loop
+mul-from c = record { fits = omega arith }
 
 loop-holds : tie.Need-loop-holds Inv-loop μ-loop
 loop-holds c = putting-start (omega arith)
@@ -25,7 +27,7 @@ shared-slice-read-put-digit : tie.Need-shared-slice-read-put-digit Inv-loop μ-l
 shared-slice-read-put-digit c = omega arith
 
 put-digit-requires : tie.Need-put-digit-requires Inv-loop μ-loop
-unfolding row-bytes
+unfolding row-text
 put-digit-requires c κs =
     let turn = c .before .before in
     (turn .loop-test .taken, numbered-room (turn .before .loop .inv) (turn .loop-test .taken) (turn .before .before .before .before .pre .1))
@@ -43,7 +45,7 @@ same-length : tie.Need-same-length Inv-loop μ-loop
 same-length c = put-length (c .before .loop .inv .so-far)
 
 returns : tie.Need-returns Inv-loop μ-loop
-unfolding row-bytes
+unfolding row-text
 returns c = numbered-end (c .before .loop .inv) (c .loop-test .left)
 
 pub put-row-spec : {M : Type 1} → statement M
@@ -52,6 +54,7 @@ put-row-spec =
     (tie.spec
     Inv-loop
     μ-loop
+    mul-from
     loop-holds
     add-put-digit
     shared-slice-read-put-digit

@@ -1,17 +1,17 @@
 -- `printing::rows::put_rows` meets its contract.
-use Prim.Native.Nat.{_*_, _-_}
+use Prim.Native.Nat.{_-_}
 use native.Mathlib.Omega.{arith}
 use Rattle.algebra.specs.Sum.{span}
 use Rattle.writing.proofs.Puts.{Putting, putting-start, put-length}
-use Rattle.printing.specs.Steps.{row-bytes, rows-bytes}
-use Rattle.printing.proofs.Squares.{row-within, row-below}
+use Rattle.pbm.specs.Writing.{row-text, rows-text}
+use Rattle.printing.proofs.Squares.{row-within}
 use Rattle.printing.proofs.Columns.{row-room}
 use Rattle.printing.proofs.Numbered.{numbered-room, numbered-next, numbered-end}
 use Rattle.printing.proofs.rows.put_rows.Statement.{statement}
 use Rattle.printing.proofs.rows.put_rows.Tie as tie
 
 abbrev Inv-loop : tie.InvT-loop
-Inv-loop place₀ at raster side end₀ n₀ place end n = Putting (λ n. row-bytes side raster ((side - 1 - n) * side)) (span 0 side) at place₀ place end n
+Inv-loop place₀ at raster side end₀ n₀ place end n = Putting (λ n. row-text side raster (side - 1 - n)) (span 0 side) at place₀ place end n
 
 abbrev μ-loop : tie.MeasureT-loop
 μ-loop place₀ at raster side end₀ n₀ place end n = side - n
@@ -25,11 +25,8 @@ sub-put-row c = omega arith
 sub-put-row-2 : tie.Need-sub-put-row-2 Inv-loop μ-loop
 sub-put-row-2 c = omega arith
 
-mul-put-row : tie.Need-mul-put-row Inv-loop μ-loop
-mul-put-row c = let s = c .before .before .before .before .before in record { fits = row-below (s .args .side) _ (omega arith) (s .pre .0) (omega arith) }
-
 put-row-requires : tie.Need-put-row-requires Inv-loop μ-loop
-unfolding rows-bytes
+unfolding rows-text
 put-row-requires c κs =
     let h = c .before .loop-test .taken in
     let l = c .before .before in
@@ -49,7 +46,7 @@ same-length : tie.Need-same-length Inv-loop μ-loop
 same-length c = put-length (c .before .loop .inv .so-far)
 
 returns : tie.Need-returns Inv-loop μ-loop
-unfolding rows-bytes
+unfolding rows-text
 returns c = numbered-end (c .before .loop .inv) (c .loop-test .left)
 
 pub put-rows-spec : {M : Type 1} → statement M
@@ -61,7 +58,6 @@ put-rows-spec =
     loop-holds
     sub-put-row
     sub-put-row-2
-    mul-put-row
     put-row-requires
     add-n
     loop-less
