@@ -4,24 +4,11 @@
    each text is read twice: once for its listing, and once for the words of its sheet. Here a text is read in one pass, which stops at the first
    fault. The walk is that of bench/plain.h. Nothing here is proved. */
 #include "plain.h"
+#include "plain_items.h"
 
 enum { LONGEST = 8192, HELD = 262144, RECORDS = 16384, ROOM = 16 * RECORDS + 28, ENTRIES = ROOM + 36, PLACES = 45, WORDS = 8 + PLACES + 1 };
 
 /* ---- fields and lines */
-
-/* What is left of a text. */
-struct rest {
-    const uint8_t *at, *end;
-};
-
-/* Goes past the byte, where it comes next. */
-static bool take_byte(struct rest *rest, uint8_t byte) {
-    if (rest->at == rest->end || *rest->at != byte) return false;
-    rest->at++;
-    return true;
-}
-
-static bool is_digit(uint8_t byte) { return byte >= '0' && byte <= '9'; }
 
 /* The number that the next digits write; once it is 2^32 or more it is too large, and grows no further. There has to be a digit, and no 0
    before others. */
@@ -126,18 +113,6 @@ static struct reading read_text(const uint8_t *text, size_t n) {
 
 /* ---- the text of a listing */
 
-static uint8_t *put_decimal(uint8_t *out, uint32_t n) {
-    if (n > 9) out = put_decimal(out, n / 10);
-    *out = (uint8_t)('0' + n % 10);
-    return out + 1;
-}
-
-static uint8_t *put_field(uint8_t *out, uint32_t n, uint8_t end) {
-    out = put_decimal(out, n);
-    *out = end;
-    return out + 1;
-}
-
 static uint8_t *put_line(uint8_t *out, const char *name, uint32_t a, uint32_t b) {
     while (*name != '\0') *out++ = (uint8_t)*name++;
     *out++ = '\t';
@@ -182,13 +157,6 @@ static bool write_words(const struct reading *reading, size_t length) {
     return write_all(out, sizeof out);
 }
 
-/* Makes the place hold what an item says: one byte everywhere, and others from some entry on, which are read. */
-static bool hold(const uint8_t *head, uint8_t *place, size_t entries) {
-    size_t end = least(word(head, 4), entries), start = least(word(head, 3), end);
-    memset(place, head[8], entries);
-    return read_all(place + start, end - start);
-}
-
 static bool one_item(void) {
     static uint8_t text[HELD], place[ENTRIES];
     static const uint8_t made[ROOM];
@@ -196,7 +164,7 @@ static bool one_item(void) {
     if (!read_all(head, sizeof head)) return false;
     if (word(head, 0) == UINT32_MAX) return write_all(made, ROOM);
     size_t n = least(word(head, 0), HELD), entries = least(word(head, 1), ENTRIES);
-    if (!read_all(text, n) || !hold(head, place, entries)) return false;
+    if (!read_all(text, n) || !hold(head, 2, place, entries)) return false;
     size_t length = listing_text(text, n, place, entries);
     struct reading reading = read_text(text, n);
     size_t first = least(word(head, 5), entries), last = least(word(head, 6), entries);
