@@ -16,13 +16,13 @@ fn digit(byte: u8) -> u8
     if byte == 1 { 49 } else { 48 }
 }
 
-// Whether an LF follows column p of a row with so many columns.
+// Whether an LF follows column p of a row with so many columns: at most 128, so that only one line can be full.
 fn ends_line(p: usize, side: usize) -> bool
-    requires { ⌜ p < side ⌝ }
+    requires { ⌜ (p < side) × (side ≤ 128) ⌝ }
     ensures { λ r. ⌜ r ≡ ends-line side p ⌝ }
 {
     let count = p + 1;
-    if count % 70 == 0 {
+    if count == 70 {
         return true;
     }
     count == side
@@ -30,7 +30,7 @@ fn ends_line(p: usize, side: usize) -> bool
 
 // The digit of column p, and the LF where one follows.
 fn put_digit(place: &mut [u8], at: usize, byte: u8, p: usize, side: usize) -> usize
-    requires { ⌜ (p < side) × (at + length (digit-bytes side byte p) ≤ length (now place)) ⌝ }
+    requires { ⌜ (p < side) × (side ≤ 128) × (at + length (digit-bytes side byte p) ≤ length (now place)) ⌝ }
     ensures { λ r. ⌜ Put at (digit-bytes side byte p) (now (place .entry)) (now (place .exit)) r ⌝ }
 {
     let end = put_byte(place, at, digit(byte));
@@ -42,7 +42,7 @@ fn put_digit(place: &mut [u8], at: usize, byte: u8, p: usize, side: usize) -> us
 
 // Row q of the raster.
 fn put_row(place: &mut [u8], at: usize, raster: &[u8], q: usize, side: usize) -> usize
-    requires { ⌜ (q * side + side ≤ length (now raster)) × (at + length (row-text side (now raster) q) ≤ length (now place)) ⌝ }
+    requires { ⌜ (side ≤ 128) × (q * side + side ≤ length (now raster)) × (at + length (row-text side (now raster) q) ≤ length (now place)) ⌝ }
     ensures { λ r. ⌜ Put at (row-text side (now (raster .entry)) q) (now (place .entry)) (now (place .exit)) r ⌝ }
 {
     let from = q * side;
@@ -57,7 +57,7 @@ fn put_row(place: &mut [u8], at: usize, raster: &[u8], q: usize, side: usize) ->
 
 // All rows: the n-th from above is row side - 1 - n of the raster.
 pub fn put_rows(place: &mut [u8], at: usize, raster: &[u8], side: usize) -> usize
-    requires { ⌜ (side * side ≤ length (now raster)) × (at + length (rows-text side (now raster)) ≤ length (now place)) ⌝ }
+    requires { ⌜ (side ≤ 128) × (side * side ≤ length (now raster)) × (at + length (rows-text side (now raster)) ≤ length (now place)) ⌝ }
     ensures { λ r. ⌜ Put at (rows-text side (now (raster .entry))) (now (place .entry)) (now (place .exit)) r ⌝ }
 {
     let mut end = at;

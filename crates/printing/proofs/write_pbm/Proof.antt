@@ -49,7 +49,7 @@ put-rows-requires c κs =
     let h = c .before .before .before in
     let s = h .before .before in
     let k = s .before .before .before .before .before .args .k in
-    (omega (arith, square-is k (s .side .ensures .0), passes (s .before) .whole), omega (arith, h .put-head .ensures .put .ends, fits s))
+    (s .side .ensures .1, omega (arith, square-is k (s .side .ensures .0), passes (s .before) .whole), omega (arith, h .put-head .ensures .put .ends, fits s))
 
 same-length : tie.Need-same-length
 same-length c = search needs

@@ -28,7 +28,7 @@ put-byte-requires-2 : tie.Need-put-byte-requires-2
 put-byte-requires-2 c κs =
     let y = c .before .before .before .before .before in
     let s = y .before .before .before .before in
-    omega (arith, y .put-byte .ensures .put .ends, s .pre .1, ended-length (s .args .side) (s .args .byte) (s .args .p) (follows (c .before)))
+    omega (arith, y .put-byte .ensures .put .ends, s .pre .2, ended-length (s .args .side) (s .args .byte) (s .args .p) (follows (c .before)))
 
 same-length : tie.Need-same-length
 same-length c = search needs

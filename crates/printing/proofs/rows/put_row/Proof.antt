@@ -29,8 +29,8 @@ shared-slice-read-put-digit c = omega arith
 put-digit-requires : tie.Need-put-digit-requires Inv-loop μ-loop
 unfolding row-text
 put-digit-requires c κs =
-    let turn = c .before .before in
-    (turn .loop-test .taken, numbered-room (turn .before .loop .inv) (turn .loop-test .taken) (turn .before .before .before .before .pre .1))
+    let turn = c .before .before in let s = turn .before .before .before .before in
+    (turn .loop-test .taken, s .pre .0, numbered-room (turn .before .loop .inv) (turn .loop-test .taken) (s .pre .2))
 
 add-p : tie.Need-add-p Inv-loop μ-loop
 add-p c = omega arith

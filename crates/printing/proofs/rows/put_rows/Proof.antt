@@ -31,7 +31,7 @@ put-row-requires c κs =
     let h = c .before .loop-test .taken in
     let l = c .before .before in
     let s = l .before .before .before in
-    (row-within (s .args .side) _ (omega arith) (s .pre .0), row-room (s .args .side) (s .args .raster .now) _ _ _ (numbered-room (l .loop .inv) h (s .pre .1)))
+    (s .pre .0, row-within (s .args .side) _ (omega arith) (s .pre .1), row-room (s .args .side) (s .args .raster .now) _ _ _ (numbered-room (l .loop .inv) h (s .pre .2)))
 
 add-n : tie.Need-add-n Inv-loop μ-loop
 add-n c = omega arith
