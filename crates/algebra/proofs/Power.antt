@@ -1,8 +1,11 @@
 -- Powers, of integers (`pow`, of `lib.IntN`) and of natural numbers.
-use mathlib.Core.Path.{_≡_, refl}
-use Prim.Native.Nat.{ℕ, zero, suc, _+_, _*_, _^_}
+use mathlib.Core.Path.{_≡_, refl, sym, _∙_, ap}
+use Prim.Native.Nat.{ℕ, zero, suc, _+_, _*_, _%_, _^_, _≤_}
 use native.Mathlib.Nat as Nat
+use native.Mathlib.Omega.{arith}
+use lib.Dec.{lit<}
 use lib.IntN.{ℤ, pos, _*ℤ_, one, pow}
+use lib.Pow.{shl-exact, pow-add}
 use Rattle.algebra.proofs.Integer.{*ℤ-idl, *ℤ-idr, *ℤ-assoc, *ℤ-left-comm}
 
 pub pow-zero : (a : ℤ) → pow a 0 ≡ pos 1
@@ -44,3 +47,7 @@ pub *-pow : (a b n : ℕ) → (a * b) ^ n ≡ a ^ n * b ^ n
 pub one-powℕ : (n : ℕ) → 1 ^ n ≡ 1
 one-powℕ zero = Nat.pow-zero 1
 one-powℕ (suc n) = rw (Nat.pow-suc 1 n, one-powℕ n)
+
+-- the machine's 1 << 2k is 4^k, since it fits
+pub four-shifted : (k : ℕ) → k ≤ 7 → 1 * 2 ^ (2 * k) % 2 ^ 64 ≡ 4 ^ k
+four-shifted k h = shl-exact 1 (2 * k) 64 (lit< tt) (omega arith) ∙ Nat.one-mul (2 ^ (2 * k)) ∙ ap (λ n. 2 ^ n) (Nat.two-mul k) ∙ pow-add 2 k k ∙ sym (*-pow 2 2 k)

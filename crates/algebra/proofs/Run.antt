@@ -50,6 +50,10 @@ unfolding run
 length-run a zero = refl
 length-run a (suc n) = ap suc (length-run (suc a) n)
 
+pub length-span : (n : ℕ) → length (span 0 n) ≡ n
+unfolding span
+length-span n = length-run 0 (n - 0) ∙ Nat.sub-zero n
+
 -- ---- and which stands at i
 run-at : (a n i : ℕ) → i < n → getD (run a n) i 0 ≡ a + i
 unfolding run

@@ -4,6 +4,7 @@ mod gaps;
 mod sizes;
 
 pub use gaps::is_white;
+pub use sizes::MOST;
 ghost use mathlib.Core.Path.{_≡_};
 ghost use mathlib.Core.Bool.{false};
 ghost use Rattle.pbm.specs.Steps.{is-magic};
@@ -24,7 +25,8 @@ struct Size {
     pub next: usize,
 }
 
-fn no_head() -> Head
+// No such form.
+pub fn no_head() -> Head
     ensures { λ r. ⌜ (r .good ≡ false) × (r .next ≡ 0) ⌝ }
 {
     Head {

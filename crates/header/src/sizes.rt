@@ -8,8 +8,8 @@ ghost use lib.ListN.{length};
 ghost use Rattle.page.specs.SheetText.{is-digit, all-digits, amount};
 ghost use Rattle.header.specs.Steps.{DigitsPassed, SizeTaken};
 
-// 2^63
-const MOST: u64 = 9_223_372_036_854_775_808;
+// 2^63, which no text has bytes for.
+pub const MOST: u64 = 9_223_372_036_854_775_808;
 
 // A tenth of it: the largest number to which a digit is added without passing 2^63 by more than that digit.
 const TENTH: u64 = 922_337_203_685_477_580;

@@ -12,7 +12,7 @@ use lib.ListN.{length, length-append}
 use lib.Pow.{pow-pos}
 use borrow.Author.Tests.{eq-eqb, ne-eqb}
 use Rattle.algebra.specs.Sum.{span}
-use Rattle.algebra.proofs.Run.{length-run, span-none, span-next}
+use Rattle.algebra.proofs.Run.{length-span, span-none, span-next}
 use Rattle.verdicts.proofs.Lists.{flatMap-++}
 use Rattle.page.specs.ListingText.{decimal}
 use Rattle.pbm.specs.Writing.{head-text, digit, ends-line, digit-text, row-text, rows-text, picture-text, text-length}
@@ -38,10 +38,6 @@ module _ {Y : Type 0} (f : ℕ → List Y) where
   below-next n =
       ap (λ m. flatMap f (span 0 m)) (sym (add-one n)) ∙ ap (flatMap f) (span-next 0 n (omega arith)) ∙ flatMap-++ f (span 0 n) (n ∷ [])
       ∙ ap (λ l. flatMap f (span 0 n) ++ l) (append-nil (f n))
-
-pub length-span : (n : ℕ) → length (span 0 n) ≡ n
-unfolding span
-length-span n = length-run 0 (n - 0) ∙ Nat.sub-zero n
 
 -- ---- where a line of a row ends: after 70, 140, .. digits, and after the last
 pub ends-full : (k p : ℕ) → (p + 1) % 70 ≡ 0 → ends-line (2 ^ k) p ≡ true

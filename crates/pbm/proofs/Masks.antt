@@ -10,11 +10,11 @@ use lib.Arith.{digits-lt}
 use lib.ListN.{length, getD, take, length-map, List·getD-append}
 use lib.Seq.{take-suc, getD-append-add}
 use Rattle.algebra.specs.Sum.{run, span}
-use Rattle.algebra.proofs.Run.{span-++, span-next, span-none, span-member}
+use Rattle.algebra.proofs.Run.{span-++, span-next, span-none, span-member, length-span}
 use Rattle.verdicts.proofs.Lists.{map-cong, flatMap-cong}
 use Rattle.verdicts.proofs.Bytes.{getD-map-run}
 use Rattle.pbm.specs.Reading.{mask}
-use Rattle.pbm.proofs.Lengths.{flatMap-long, below-none, below-next, length-span}
+use Rattle.pbm.proofs.Lengths.{flatMap-long, below-none, below-next}
 
 module _ {X : Type 0} where
   -- ---- m rows of s columns, f q p in column p of row q

@@ -4,8 +4,7 @@ use Prim.Native.Nat.{ℕ, _+_, _≤_, _<_}
 use native.Mathlib.Omega.{arith}
 use lib.ListN.{length}
 use Rattle.algebra.specs.Sum.{span}
-use Rattle.algebra.proofs.Run.{span-at}
-use Rattle.pbm.proofs.Lengths.{length-span}
+use Rattle.algebra.proofs.Run.{length-span, span-at}
 use Rattle.writing.specs.Steps.{Put}
 use Rattle.writing.proofs.Puts.{Putting, putting-next, putting-room, putting-end}
 

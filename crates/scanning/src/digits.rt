@@ -1,5 +1,6 @@
 // The digits: white space may stand among them, and what follows the last one, if anything does, begins with white space.
 use crate::Data;
+use header::MOST;
 use header::is_white;
 ghost use mathlib.Core.Path.{_≡_};
 ghost use mathlib.Core.Bool.{_||_, cond};
@@ -7,9 +8,6 @@ ghost use Prim.Native.Nat.{_*_, _^_, _≤_, _<_, min};
 ghost use lib.ListN.{length, drop};
 ghost use Rattle.pbm.specs.Reading.{is-white, is-bit, is-after};
 ghost use Rattle.scanning.specs.Steps.{DataTaken, DataComplete};
-
-// 2^63, which no text has bytes for.
-const MOST: u64 = 9_223_372_036_854_775_808;
 
 // Whether the byte is `0` or `1`.
 pub fn is_bit(byte: u8) -> bool

@@ -4,7 +4,6 @@ mod rows;
 
 use header::Head;
 ghost use mathlib.Core.Path.{_≡_};
-ghost use mathlib.Core.Bool.{false};
 ghost use Rattle.scanning.specs.Promises.{ScanPromise};
 ghost use Rattle.scanning.specs.Steps.{depth-or, PictureFound};
 
@@ -20,27 +19,16 @@ struct Data {
     pub next: usize,
 }
 
-fn no_picture() -> Head
-    ensures { λ r. ⌜ r .good ≡ false ⌝ }
-{
-    Head {
-        good: false,
-        width: 0,
-        height: 0,
-        next: 0,
-    }
-}
-
 // The sizes of a plain PBM, one above 2^63 told as 2^63, and where its digits begin; or that the text is none.
 fn picture_in(text: &[u8]) -> Head
     ensures { λ r. ⌜ PictureFound (now (text .entry)) r ⌝ }
 {
     let head = header::read_head(text);
     if !head.good {
-        return no_picture();
+        return header::no_head();
     }
     if !digits::complete(text, head.next, head.width, head.height) {
-        return no_picture();
+        return header::no_head();
     }
     head
 }

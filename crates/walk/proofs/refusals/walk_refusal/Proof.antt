@@ -2,14 +2,12 @@
 use mathlib.Core.Path.{_≡_, sym, _∙_, ap}
 use mathlib.Core.Bool.{cond}
 use Prim.Native.Nat.{_*_, _%_, _^_, _≤_}
-use native.Mathlib.Nat as Nat
 use native.Mathlib.Omega.{arith}
 use borrow.Author.Needs.{needs}
 use borrow.Author.Tests.{lt-ltb, le-ltb}
-use lib.Dec.{ltb, lit<}
-use lib.Pow.{shl-exact, pow-add}
+use lib.Dec.{ltb}
 use mir.Facts.{toZ-ofZ}
-use Rattle.algebra.proofs.Power.{*-pow}
+use Rattle.algebra.proofs.Power.{four-shifted}
 use Rattle.page.specs.Sheet.{Sheet, sheet-of}
 use Rattle.page.specs.Refusals.{refusal, to-walk}
 use Rattle.page.specs.Steps.{mode-refusal}
@@ -39,9 +37,7 @@ after c =
 
 -- the machine's 1 << 2k is 4^k
 cells-are : (c : tie.Else1) → let k = c .before .before .args .k in 1 * 2 ^ (2 * k) % 2 ^ 64 ≡ 4 ^ k
-cells-are c =
-    let k = c .before .before .args .k in
-    shl-exact 1 (2 * k) 64 (lit< tt) (omega (arith, depth c)) ∙ Nat.one-mul (2 ^ (2 * k)) ∙ ap (λ n. 2 ^ n) (Nat.two-mul k) ∙ pow-add 2 k k ∙ sym (*-pow 2 2 k)
+cells-are c = four-shifted (c .before .before .args .k) (depth c)
 
 returns : tie.Need-returns
 returns c =
