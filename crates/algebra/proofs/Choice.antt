@@ -1,6 +1,9 @@
 -- What a Boolean test decides.
 use mathlib.Core.Path.{_≡_, refl, sym}
 use mathlib.Core.Bool.{Bool, true, false, not, _&&_, cond, false≢true}
+use Prim.Native.Nat.{ℕ, _+_, _≤_}
+use native.Mathlib.Nat as Nat
+use native.Mathlib.Omega.{arith}
 use lib.Dec.{T}
 
 -- a property of `cond c x y`, by the two outcomes of the test c
@@ -55,3 +58,12 @@ and-l false y t = t
 pub and-r : (x y : Bool) → T (x && y) → T y
 and-r true y t = t
 and-r false y t = absurd t
+
+-- ---- a number up to 8 that is none of those before it
+past : (n d : ℕ) → n ≤ d → (d ≡ n → ⊥) → n + 1 ≤ d
+past n d h m = omega arith
+
+pub eight-left : (d : ℕ) → d ≤ 8 → (d ≡ 0 → ⊥) → (d ≡ 1 → ⊥) → (d ≡ 2 → ⊥) → (d ≡ 3 → ⊥) → (d ≡ 4 → ⊥) → (d ≡ 5 → ⊥) → (d ≡ 6 → ⊥) → (d ≡ 7 → ⊥) → d ≡ 8
+eight-left d h n₀ n₁ n₂ n₃ n₄ n₅ n₆ n₇ =
+    let four = past 3 d (past 2 d (past 1 d (past 0 d (omega arith) n₀) n₁) n₂) n₃ in let l = past 7 d (past 6 d (past 5 d (past 4 d four n₄) n₅) n₆) n₇ in
+    Nat.le-antisymm h l

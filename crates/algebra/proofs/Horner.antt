@@ -1,7 +1,7 @@
 -- Horner's rule, from the top down: what it holds at first, at each step and at the end, and how large that is.
 use mathlib.Core.Path.{_≡_, sym, _∙_, ap, ap₂}
 use mathlib.Core.List.{[], _∷_}
-use Prim.Native.Nat.{ℕ, suc, _+_, _*_, _-_, _^_, _≤_, _<_}
+use Prim.Native.Nat.{ℕ, zero, suc, _+_, _*_, _-_, _^_, _≤_, _<_}
 use native.Mathlib.Nat as Nat
 use native.Mathlib.Omega.{arith}
 use lib.IntN.{ℤ, pos, _+ℤ_, _*ℤ_, natAbs, *ℤ-zero, +ℤ-comm, +ℤ-idl}
@@ -9,7 +9,7 @@ use Rattle.algebra.specs.Sum.{sum, sumℕ, span, _⋯_}
 use Rattle.algebra.specs.Binomial.{entry}
 use Rattle.algebra.specs.Horner.{shifted, load}
 use Rattle.algebra.proofs.Absolute.{natAbs-*ℤ}
-use Rattle.algebra.proofs.Ring.{ring, _⊕_, _⊗_, _≐_}
+use Rattle.algebra.proofs.Ring.{ring, _⊕_, _⊗_, #_, _≐_}
 use Rattle.algebra.proofs.Sum.{sum-cong, sum-+, sum-*ℤ, sumℕ-cong, sumℕ-mono, *-sumℕ, natAbs-sum-le}
 use Rattle.algebra.proofs.Run.{span-member, sum-span-none, sum-span-first, sum-span-zero, sumℕ-span-first, sumℕ-span-part}
 use Rattle.algebra.proofs.Binomial.{entry-over, entry-first, entry-suc-zero, entry-suc, entry-size}
@@ -57,6 +57,17 @@ module _ (c : ℕ → ℤ) (u h : ℤ) (m : ℕ) where
   pub shifted-size : (j a : ℕ) → natAbs (shifted c u h m j a) ≤ load c (natAbs u + natAbs h) m j
   unfolding shifted load
   shifted-size j a = natAbs-sum-le (span j (suc m)) _ (λ n k. rw natAbs-*ℤ (Nat.mul-le-mul-left (natAbs (c n)) (entry-size u h (n - j) a)))
+
+-- moved by 0 a polynomial is what it was
+module _ (c : ℕ → ℤ) (m : ℕ) where
+  shifted-still : (j a : ℕ) → j + a ≤ m → shifted c (pos 0) (pos 1) m j a ≡ c (j + a)
+  shifted-still j zero l = shifted-zero c (pos 0) (pos 1) m j (omega arith) ∙ ring (shifted c (pos 0) (pos 1) m (suc j) 0 ∷ c j ∷ []) (λ x c. x ⊗ # 0 ⊕ c ⊗ # 1 ≐ c) tt ∙ ap c (sym (Nat.add-zero j))
+  shifted-still j (suc a) l =
+      shifted-suc c (pos 0) (pos 1) m j a (omega arith) ∙ ring (shifted c (pos 0) (pos 1) m (suc j) (suc a) ∷ shifted c (pos 0) (pos 1) m (suc j) a ∷ []) (λ x y. x ⊗ # 0 ⊕ y ⊗ # 1 ≐ y) tt
+      ∙ shifted-still (suc j) a (omega arith) ∙ ap c (omega arith)
+
+  pub still : (a : ℕ) → a ≤ m → sum (0 ⋯ m) (λ n. c n *ℤ entry (pos 0) (pos 1) n a) ≡ c a
+  still a l = sym (shifted-all c (pos 0) (pos 1) m a) ∙ shifted-still 0 a (omega arith) ∙ ap c (Nat.zero-add a)
 
 -- ---- the loads
 module _ (c : ℕ → ℤ) (b m : ℕ) where

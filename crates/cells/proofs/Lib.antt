@@ -1,3 +1,4 @@
-pub mod Scaling
 pub mod Forms
-pub mod Grounds
+pub mod Parts
+pub mod Widening
+pub mod Making

@@ -1,40 +1,45 @@
--- The cells of a sheet on the machine: what the contracts of `ground_of` and `cell_verdict` say. None of it is the page's; proofs/Grounds shows that it gives the page's verdicts.
+-- The local form of a cell on the machine: what the contracts of `settle` and of the walk say. None of it is the page's but what it cites.
 use mathlib.Core.Path.{_≡_}
-use Prim.Native.Nat.{ℕ, _+_, _*_, _-_, _^_, _≤_}
-use lib.IntN.{ℤ, pos, _+ℤ_, _*ℤ_}
-use Rattle.forms.specs.Plane.{moved}
-use Rattle.local.specs.Table.{held, Tabled}
+use mathlib.Core.List.{List}
+use Prim.Native.Nat.{ℕ, _+_, _≤_}
+use lib.IntN.{ℤ, pos, natAbs}
+use lib.ListN.{length}
 use Rattle.forms.specs.Bounds.{mode-of}
-use Rattle.local.specs.Range.{range-of, judged-by}
-use Rattle.verdicts.specs.Walking.{Verdicts}
+use Rattle.forms.specs.Plane.{moved}
+use Rattle.tables.specs.Table.{held}
+use Rattle.tables.specs.Moves.{Movable}
+use Rattle.verdicts.specs.declared.Verdict.{Verdict}
 use Rattle.page.specs.Sheet.{Sheet}
-use Rattle.page.specs.Scaled.{scaled}
+use Rattle.page.specs.Scaled.{IsCell}
+use Rattle.page.specs.LocalForm.{G}
+use Rattle.page.specs.Bounds.{verdict}
 use Rattle.page.specs.Weight.{Accepted}
-use Rattle.cells.specs.declared.Ground.{Ground}
 
--- `ground_of`: the scaled form of the sheet, the corner of its square in scaled units, its side and depth, and the mode
-pub record GroundOf (S : Sheet) (mode : ℕ) (g : Ground) : Type 0 where
-  pub tabled : Tabled (S .d) (scaled S) (g .form)
-  pub across : g .across ≡ pos (2 ^ (S .k + 1)) *ℤ S .X
-  pub along : g .along ≡ pos (2 ^ (S .k + 1)) *ℤ S .Y
-  pub side : g .s ≡ S .s
-  pub depth : g .k ≡ S .k
-  pub moded : g .mode ≡ mode
+-- the places hold the local form of a cell of an accepted sheet
+pub record CellForm (S : Sheet) (j p q : ℕ) (places : List ℤ) : Type 0 where
+  pub accepted : Accepted S
+  pub cell : IsCell (S .k) j p q
+  pub long : length places ≡ 45
+  pub each : (a b : ℕ) → a + b ≤ S .d → held places (S .d) a b ≡ G S j p q a b
 
--- a ground that cells can be measured on: that of an accepted sheet, in mode 0 or 1
-pub record Firm (g : Ground) : Type 0 where
+-- they hold a table that has only to be moved by `across` and `along`, each -1, 0 or 1, to be the local form of the cell
+pub record Near (S : Sheet) (j p q : ℕ) (across along : ℤ) (places : List ℤ) : Type 0 where
+  pub accepted : Accepted S
+  pub cell : IsCell (S .k) j p q
+  pub long : length places ≡ 45
+  pub sides : (natAbs across ≤ 1) × (natAbs along ≤ 1)
+  pub movable : Movable (S .d) across along places
+  pub each : (a b : ℕ) → a + b ≤ S .d → moved (S .d) (held places (S .d)) across along (pos 1) a b ≡ G S j p q a b
+
+-- `settle`: for some cell of some sheet, and then for whichever it is, the places hold its local form, and the verdict is the page's
+pub record Settleable (d : ℕ) (across along : ℤ) (places : List ℤ) : Type 0 where
   pub sheet : Sheet
-  pub accepted : Accepted sheet
-  pub of : GroundOf sheet (g .mode) g
-  pub mode : g .mode ≤ 1
+  pub j : ℕ
+  pub p : ℕ
+  pub q : ℕ
+  pub degree : d ≡ sheet .d
+  pub near : Near sheet j p q across along places
 
--- ---- the table of the form about the centre of a cell, and the verdict by its range
-abbrev pub half-in : Ground → ℕ → ℕ
-half-in g j = 2 ^ (g .s + g .k - j)
-
-abbrev pub table-in : Ground → ℕ → ℕ → ℕ → ℕ → ℕ → ℤ
-table-in g j p q =
-    moved (g .form .degree) (held (g .form)) (g .across +ℤ pos ((2 * p + 1) * half-in g j)) (g .along +ℤ pos ((2 * q + 1) * half-in g j)) (pos (half-in g j))
-
-unfoldable pub verdicts-in : Ground → Verdicts
-verdicts-in g j p q = judged-by (range-of (g .form .degree) (mode-of (g .mode)) (table-in g j p q))
+pub record Settled (d : ℕ) (across along : ℤ) (mode : ℕ) (old new : List ℤ) (r : Verdict) : Type 0 where
+  pub form : (S : Sheet) (j p q : ℕ) → d ≡ S .d → Near S j p q across along old → CellForm S j p q new
+  pub judged : (S : Sheet) (j p q : ℕ) → d ≡ S .d → Near S j p q across along old → r ≡ verdict S (mode-of mode) j p q

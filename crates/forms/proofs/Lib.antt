@@ -14,5 +14,6 @@ pub mod Parts
 pub mod Depth
 pub mod Coordinates
 pub mod Plane
-pub mod Turns
+pub mod Moves
+pub mod PlaneParts
 pub mod Samples

@@ -17,7 +17,7 @@ use Rattle.forms.specs.LocalForm.{local}
 use Rattle.forms.specs.Bounds.{affine, centred, low, high, lower, upper, bent, bend}
 use Rattle.forms.specs.Weight.{weight, Limited}
 use Rattle.forms.specs.Straight.{against, unit, zero-denominator, zero-point}
-use Rattle.forms.specs.Plane.{pair, plane, turned}
+use Rattle.forms.specs.Plane.{pair, plane, along, across}
 use Rattle.forms.proofs.Plane.{both}
 
 -- c x^i y^j
@@ -102,10 +102,10 @@ pub touch-P4 : (zero-denominator P4 affine lower-right 1 ≡ 4) × (map (zero-po
 unfolding zero-denominator zero-point P4 against unit monomial lower low upper high all-even minℤ maxℤ local scaled powers chooses choose _∸_ total vectors run span _⋯_ flatMap sum pow one
 touch-P4 = (refl, refl)
 
--- ---- x y² at y = 2 + 3 s is x (4 + 12 s + 9 s²), and at x = -1 + 3 t too it has 27 at t s² and -12 at s
-pub turns : (map (λ b. turned 3 (monomial (pos 1) 1 2) (pos 2) (pos 3) b 1) (0 ⋯ 3) ≡ pos 4 ∷ pos 12 ∷ pos 9 ∷ pos 0 ∷ [])
-    × (map (turned 3 (monomial (pos 1) 1 2) (pos 2) (pos 3) 0) (0 ⋯ 2) ≡ pos 0 ∷ pos 4 ∷ pos 0 ∷ [])
-    × (turned 3 (turned 3 (monomial (pos 1) 1 2) (pos 2) (pos 3)) (negsuc 0) (pos 3) 1 2 ≡ pos 27)
-    × (turned 3 (turned 3 (monomial (pos 1) 1 2) (pos 2) (pos 3)) (negsuc 0) (pos 3) 0 1 ≡ negsuc 11)
-unfolding turned monomial choose entry run span _⋯_ sum pow one
-turns = (refl, refl, refl, refl)
+-- ---- x y² moved by 2 along is x (4 + 4 y + y²), and by -1 across too (x - 1) (4 + 4 y + y²): it has 1 at x y² and -4 at y
+pub moves : (map (along 3 (monomial (pos 1) 1 2) (pos 2) 1) (0 ⋯ 3) ≡ pos 4 ∷ pos 4 ∷ pos 1 ∷ pos 0 ∷ [])
+    × (map (λ i. along 3 (monomial (pos 1) 1 2) (pos 2) i 0) (0 ⋯ 2) ≡ pos 0 ∷ pos 4 ∷ pos 0 ∷ [])
+    × (across 3 (along 3 (monomial (pos 1) 1 2) (pos 2)) (negsuc 0) 1 2 ≡ pos 1)
+    × (across 3 (along 3 (monomial (pos 1) 1 2) (pos 2)) (negsuc 0) 0 1 ≡ negsuc 3)
+unfolding along across monomial choose entry run span _⋯_ sum pow one
+moves = (refl, refl, refl, refl)

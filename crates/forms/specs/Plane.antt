@@ -23,9 +23,12 @@ at-pair A (i ∷ j ∷ e) = A i j
 abbrev pub plane : ℕ → ℕ → (ℕ → ℕ → ℤ) → Polynomial
 plane d S A = record { variables = 2; degree = d; scale = S; coefficient = at-pair A }
 
--- the second variable moved about u with the half-side h, and the two variables exchanged
-unfoldable pub turned : ℕ → (ℕ → ℕ → ℤ) → ℤ → ℤ → ℕ → ℕ → ℤ
-turned d f u h b i = sum (0 ⋯ (d - i)) (λ j. f i j *ℤ entry u h j b)
+-- the second variable moved by v, f(x, y + v), and the first by u, f(x + u, y): what is added up by columns, and by rows
+unfoldable pub along : ℕ → (ℕ → ℕ → ℤ) → ℤ → ℕ → ℕ → ℤ
+along d f v i b = sum (0 ⋯ (d - i)) (λ j. f i j *ℤ entry v (pos 1) j b)
+
+unfoldable pub across : ℕ → (ℕ → ℕ → ℤ) → ℤ → ℕ → ℕ → ℤ
+across d f u a b = sum (0 ⋯ (d - b)) (λ i. f i b *ℤ entry u (pos 1) i a)
 
 -- the even rule at (a,b): mode 0, a and b both even
 abbrev pub even-pair : Mode → ℕ → ℕ → Bool

@@ -1,6 +1,4 @@
-pub mod Steps
-pub mod Columns
-pub mod Moves
-pub mod Parts
-pub mod Spreads
-pub mod Ranges
+pub mod Sums
+pub mod Sparing
+pub mod Flat
+pub mod Bounding

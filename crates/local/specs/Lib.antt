@@ -1,4 +1,3 @@
 -- The local form on the machine: what the contracts of this crate say.
-pub mod Horner
-pub mod Table
+pub mod Form
 pub mod Range

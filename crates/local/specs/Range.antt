@@ -1,19 +1,17 @@
 -- The range of a form: the two bounds and the bend, for any table g(a,b), a + b ≤ d, and the verdict by a range.
-use mathlib.Core.Bool.{cond}
+use mathlib.Core.Bool.{cond, _&&_}
 use mathlib.Core.List.{List, [], _∷_}
-use Prim.Native.Nat.{ℕ, _+_, _-_, _^_, _≤_, _<_}
-use lib.Dec.{eqb}
-use lib.IntN.{ℤ, natAbs}
-use Rattle.algebra.specs.Sum.{sum, sumℕ, _⋯_}
+use Prim.Native.Nat.{ℕ, zero, suc, _+_, _-_, _%_, _^_, _≤_, _<_}
+use lib.Dec.{leb, eqb}
+use lib.IntN.{ℤ, pos, negsuc, natAbs}
+use Rattle.algebra.specs.Sum.{sum, sumℕ, span, _⋯_}
 use Rattle.algebra.specs.Triangle.{triangle}
 use Rattle.forms.specs.Bounds.{Mode, low, high, bent}
-use Rattle.local.specs.declared.Form.{Form}
+use Rattle.tables.specs.Table.{at, row-of, held}
 use Rattle.local.specs.declared.Range.{Range}
-use Rattle.local.specs.declared.Spread.{Spread}
+use Rattle.local.specs.declared.Spare.{Spare}
 use Rattle.verdicts.specs.declared.Verdict.{Verdict}
 use Rattle.verdicts.specs.Judging.{judged}
-use Rattle.local.specs.Horner.{row-of}
-use Rattle.local.specs.Table.{held}
 
 -- ---- the sums over the table of what g(a,b) adds to each bound and to the bend
 abbrev pub lower-of : ℕ → Mode → (ℕ → ℕ → ℤ) → ℤ
@@ -25,7 +23,7 @@ upper-of d mode g = sum (0 ⋯ d) (λ a. sum (0 ⋯ (d - a)) (λ b. high mode (a
 abbrev pub bend-of : ℕ → (ℕ → ℕ → ℤ) → ℕ
 bend-of d g = triangle d (λ a b. bent (a ∷ b ∷ []) (g a b))
 
--- `local_range`
+-- `range_on`
 abbrev pub ranged : ℤ → ℤ → ℕ → Range
 ranged lower upper bend = record { lower = lower; upper = upper; bend = bend }
 
@@ -36,43 +34,57 @@ range-of d mode g = ranged (lower-of d mode g) (upper-of d mode g) (bend-of d g)
 abbrev pub judged-by : Range → Verdict
 judged-by r = judged (r .lower) (r .upper) (r .bend)
 
--- the sizes of a form's places together leave room for it
-pub record Light (form : Form) : Type 0 where
-  pub small : form .degree ≤ 8
-  pub light : triangle (form .degree) (λ a b. natAbs (held form a b)) < 2 ^ 62
+-- the sizes of the places of a table together leave room for it
+pub record Light (d : ℕ) (places : List ℤ) : Type 0 where
+  pub small : d ≤ 8
+  pub light : triangle d (λ a b. natAbs (held places d a b)) < 2 ^ 62
 
--- ---- how far a place reaches below the centre and above it; the centre itself does not
-unfoldable pub falls : Mode → ℕ → ℕ → ℤ → ℕ
-falls mode a b g = cond (eqb (a + b) 0) 0 (natAbs (low mode (a ∷ b ∷ []) g))
+-- ---- `sizes`
+abbrev pub sizes-of : List ℤ → ℕ → ℕ
+sizes-of places count = sumℕ (span 1 count) (λ n. natAbs (at places n))
 
-unfoldable pub rises : Mode → ℕ → ℕ → ℤ → ℕ
-rises mode a b g = cond (eqb (a + b) 0) 0 (natAbs (high mode (a ∷ b ∷ []) g))
+pub record Sizable (places : List ℤ) (count : ℕ) : Type 0 where
+  pub inside : count ≤ 45
+  pub light : sizes-of places count < 2 ^ 62
 
--- `part` and `add`
-abbrev pub part-of : Mode → ℕ → ℕ → ℤ → Spread
-part-of mode a b g = record { fall = falls mode a b g; rise = rises mode a b g; bend = bent (a ∷ b ∷ []) g }
+-- ---- `above` and `below`
+abbrev pub above-zero : ℤ → ℕ
+above-zero (pos n) = n
+above-zero (negsuc n) = 0
 
-abbrev pub both : Spread → Spread → Spread
-both x y = record { fall = x .fall + y .fall; rise = x .rise + y .rise; bend = x .bend + y .bend }
+abbrev pub below-zero : ℤ → ℕ
+below-zero (pos n) = 0
+below-zero (negsuc n) = suc n
 
--- `row_spread`: the row a, n + 1 places from `first` on
-pub record Weighable (places : List ℤ) (first a n : ℕ) : Type 0 where
-  pub across : a < 9
-  pub short : n < 9
+-- ---- `spared_row` and `spared`: what the even rule spares of the fall and of the rise, b even from `from` on, and a and b even but (0,0)
+abbrev pub even-from : ℕ → ℕ → ℕ → ℕ
+even-from from b n = cond (leb from b && eqb (b % 2) 0) n 0
+
+abbrev pub row-spare-of : List ℤ → ℕ → ℕ → ℕ → Spare
+row-spare-of places first from n = record {
+  fall = sumℕ (0 ⋯ n) (λ b. even-from from b (above-zero (row-of places first b)));
+  rise = sumℕ (0 ⋯ n) (λ b. even-from from b (below-zero (row-of places first b)));
+}
+
+pub record RowSparable (places : List ℤ) (first from n : ℕ) : Type 0 where
+  pub even : from % 2 ≤ 0
+  pub short : n ≤ 8
   pub inside : first + n < 45
   pub light : sumℕ (0 ⋯ n) (λ b. natAbs (row-of places first b)) < 2 ^ 62
 
-abbrev pub row-spread-of : Mode → ℕ → ℕ → (ℕ → ℤ) → Spread
-row-spread-of mode a n g = record {
-  fall = sumℕ (0 ⋯ n) (λ b. falls mode a b (g b));
-  rise = sumℕ (0 ⋯ n) (λ b. rises mode a b (g b));
-  bend = sumℕ (0 ⋯ n) (λ b. bent (a ∷ b ∷ []) (g b));
+abbrev pub spares : ℕ → ℕ → ℕ → ℕ
+spares a b n = cond (leb 1 (a + b) && (eqb (a % 2) 0 && eqb (b % 2) 0)) n 0
+
+abbrev pub spare-of : List ℤ → ℕ → Spare
+spare-of places d = record {
+  fall = triangle d (λ a b. spares a b (above-zero (held places d a b)));
+  rise = triangle d (λ a b. spares a b (below-zero (held places d a b)));
 }
 
--- `table_spread`
-abbrev pub table-spread-of : ℕ → Mode → (ℕ → ℕ → ℤ) → Spread
-table-spread-of d mode g = record {
-  fall = triangle d (λ a b. falls mode a b (g a b));
-  rise = triangle d (λ a b. rises mode a b (g a b));
-  bend = bend-of d g;
-}
+abbrev pub Sparable : List ℤ → ℕ → Type 0
+Sparable places d = Light d places
+
+-- in a mode
+abbrev pub spare-in : ℕ → List ℤ → ℕ → Spare
+spare-in zero places d = spare-of places d
+spare-in (suc m) places d = record { fall = 0; rise = 0 }

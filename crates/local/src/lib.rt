@@ -1,25 +1,22 @@
-// The local form on the machine: a table by value, its centre moved, and the range of its values.
+// The local form on the machine: a table by value, the range of its values, and the verdict by a range.
 // An inner crate: what its functions require, every caller proves.
-mod horner;
+mod judging;
 mod measure;
-mod table;
+mod sizes;
 
-pub use measure::centre_of;
-pub use measure::judge;
-pub use measure::local_range;
-pub use table::local_form;
+pub use judging::judge;
+pub use measure::range_on;
 
-// The degree and 45 places, of which those not used are zero.
+// The degree and 45 places.
 pub struct Form {
     pub degree: u32,
     pub places: [i64; 45],
 }
 
-// How far the values of a form reach below and above its centre, and its bend.
-pub struct Spread {
+// What the even rule spares of a form's fall and of its rise.
+struct Spare {
     pub fall: u64,
     pub rise: u64,
-    pub bend: u64,
 }
 
 // The range of a form's values: the lower bound, the upper bound and the bend.

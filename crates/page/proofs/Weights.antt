@@ -13,7 +13,7 @@ use Rattle.algebra.proofs.Run.{member-⋯}
 use Rattle.forms.specs.Plane.{pair, plane}
 use Rattle.forms.specs.Weight.{weight as plane-weight}
 use Rattle.forms.proofs.Plane.{weight-axes}
-use Rattle.forms.proofs.Turns.{scaled-weight}
+use Rattle.forms.proofs.Moves.{scaled-weight}
 use Rattle.page.specs.Sheet.{Sheet, A, InRange}
 use Rattle.page.specs.Scaled.{scaled}
 use Rattle.page.specs.Weight.{axis-limit, Rx, Ry, weight, Accepted}

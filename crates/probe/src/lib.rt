@@ -49,9 +49,8 @@ pub fn value(d: u32, coefficients: &[i32], x: i32, y: i32, s: u32, k: u32, u: i6
         return Valued::Refused(refusal);
     }
     let form = cells::scaled_form(d, coefficients, k);
-    // F at (u, v) is G(0,0) of the form about it
-    let there = local::local_form(form, u, v, 0);
-    let z = local::centre_of(there);
+    let n = d as usize;
+    let z = tables::value_at(&form.places, n, u, v);
     Valued::At(z)
 }
 
@@ -74,7 +73,8 @@ pub fn bounds(
     if refusal != 0 {
         return Bounded::Refused(refusal);
     }
-    let ground = cells::ground_of(d, coefficients, x, y, s, k, mode);
-    let verdict = cells::cell_verdict(ground, j, p, q);
+    let form = cells::cell_form(d, coefficients, x, y, s, k, j, p, q);
+    let n = d as usize;
+    let verdict = local::judge(local::range_on(&form.places, n, mode));
     Bounded::Cell(verdict)
 }

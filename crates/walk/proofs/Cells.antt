@@ -1,10 +1,11 @@
 -- What is seen of a cell, by its own colour: one that is not cut counts for itself, and a cut one for its four parts.
-use mathlib.Core.Path.{_≡_, sym, _∙_, ap}
+use mathlib.Core.Path.{_≡_, sym, _∙_, ap, subst}
 use mathlib.Core.Bool.{cond, true≢false}
-use mathlib.Core.List.{[], _∷_}
+use mathlib.Core.List.{List, [], _∷_}
 use Prim.Native.Nat.{ℕ, _+_, _*_, _-_, _/_, _^_, _≤_, _<_}
 use native.Mathlib.Omega.{arith}
 use lib.Dec.{eqb}
+use lib.IntN.{ℤ}
 use lib.Pow.{pow-add}
 use mir.Syntax.{w32}
 use mir.Val.{Fits}
@@ -15,11 +16,13 @@ use Rattle.verdicts.specs.Operational.{visited-from, coloured-from, bend-from, 
 use Rattle.verdicts.proofs.Cells.{Opened, clears, opens, kind, levels-below, visited-cleared, visited-last, visited-open, coloured-cleared, coloured-last, coloured-open, bend-cleared, bend-last, bend-open, records-cleared, records-last, colour-cleared, colour-last}
 use Rattle.verdicts.proofs.Bounds.{visited-small, coloured-small}
 use Rattle.page.specs.Scaled.{IsCell}
-use Rattle.cells.specs.declared.Ground.{Ground}
-use Rattle.cells.specs.Cell.{Firm}
-use Rattle.cells.proofs.Grounds.{cell-small}
+use Rattle.page.specs.Sheet.{Sheet}
+use Rattle.page.proofs.Cells.{column-small, row-small}
+use Rattle.tables.specs.Scaling.{Halved}
+use Rattle.local.specs.declared.Form.{Form}
+use Rattle.cells.proofs.Parts.{Side, part-near}
 use Rattle.walk.specs.declared.Seen.{Seen}
-use Rattle.walk.specs.Steps.{one-seen, cut-seen, Few, Counted}
+use Rattle.walk.specs.Steps.{one-seen, cut-seen, Few, Counted, OwnForm, NearForm, Held}
 
 -- a cell whose own colour is 1 is open
 pub open-by : (w : Verdict) → colour-of (w ∷ []) ≡ 1 → Opened w
@@ -85,10 +88,27 @@ part-on-grid k level p q l o x y a b = record {
   row = omega (arith, pow-add 2 level 1, o .row);
 }
 
--- and its column and its row fit 32 bits
-module _ {ground : Ground} {level p q : ℕ} (g : Firm ground) (o : IsCell (ground .k) level p q) where
+-- ---- a cell whose own form is at hand: its numbers are small, and so the columns and rows of its parts fit 32 bits
+module _ {form : Form} {k level p q : ℕ} (h : Held form k level p q) where
+  pub own-cell : IsCell k level p q
+  own-cell = subst (λ n. IsCell n level p q) (h .own .depth) (h .own .own .cell)
+
+  pub depth-small : k ≤ 7
+  depth-small = let r = h .own .own .accepted .ranges .depth in let e = h .own .depth in omega arith
+
   pub column-fits : Fits w32 (2 * p + 1)
-  column-fits = omega (arith, cell-small g level p q o .0)
+  column-fits = let n = column-small (h .own .own .accepted .ranges) (h .own .own .cell) in omega arith
 
   pub row-fits : Fits w32 (2 * q + 1)
-  row-fits = omega (arith, cell-small g level p q o .1)
+  row-fits = let n = row-small (h .own .own .accepted .ranges) (h .own .own .cell) in omega arith
+
+-- ---- its parts: the form halved is near to the form of each
+pub carried-part : {form : Form} {places : List ℤ} {k level p q : ℕ} {s z : ℤ} {r t : ℕ} (S : Sheet) → level < k → Side s p r → Side z q t → r ≤ 2 * p + 1 → t ≤ 2 * q + 1 →
+    OwnForm S form k level p q → Halved (form .degree) (form .places) places → NearForm S (record { degree = form .degree; places = places }) s z k (level + 1) r t
+carried-part {form} {places} {k} {level} {p} {q} {s} {z} {r} {t} S l x y i o f h =
+    let above : level < S .k = let e = f .depth in omega arith in
+    record {
+      degree = f .degree;
+      depth = f .depth;
+      near = part-near S level p q above x y (part-on-grid (S .k) level p q above (f .own .cell) r t i o) (f .own) (subst (λ n. Halved n (form .places) places) (f .degree) h);
+    }

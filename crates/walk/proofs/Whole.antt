@@ -1,5 +1,5 @@
 -- The whole sheet is the cell at level 0: what examining it paints is the page's raster, what listing it writes is the page's listing, and what either counts is the page's tally.
-use mathlib.Core.Path.{_≡_, sym, _∙_, ap}
+use mathlib.Core.Path.{_≡_, refl, sym, _∙_, ap}
 use mathlib.Core.Bool.{true, false, cond, _&&_, and-false}
 use mathlib.Core.List.{List, _++_}
 use Prim.Native.Nat.{ℕ, _+_, _-_, _*_, _/_, _%_, _^_, _≤_, _<_}
@@ -8,6 +8,7 @@ use native.Mathlib.Decide.{decLt}
 use native.Mathlib.Omega.{arith}
 use borrow.Author.Tests.{eq-eqb, ne-eqb}
 use lib.Dec.{eqb}
+use lib.IntN.{pos}
 use lib.ListN.{length, getD, drop, length-append, length-drop, List·getD-append}
 use lib.Pow.{pow-pos}
 use lib.Seq.{getD-append-add, getD-drop, ext-getD, sets, sets-eq}
@@ -22,23 +23,27 @@ use Rattle.verdicts.proofs.Lengths.{raster-long, listing-long}
 use Rattle.verdicts.proofs.Listing.{records-are}
 use Rattle.verdicts.proofs.Bytes.{row-below, raster-at}
 use Rattle.page.specs.Sheet.{Sheet}
-use Rattle.page.specs.Scaled.{IsCell}
+use Rattle.page.specs.LocalForm.{G}
 use Rattle.page.specs.Refusals.{refusal, to-walk}
 use Rattle.page.proofs.Rows.{walk-passed}
-use Rattle.cells.specs.declared.Ground.{Ground}
-use Rattle.cells.specs.Cell.{GroundOf, Firm}
-use Rattle.cells.proofs.Grounds.{firm, whole-on-grid}
+use Rattle.local.specs.declared.Form.{Form}
+use Rattle.local.specs.Form.{Tabled}
+use Rattle.cells.proofs.Making.{held-form}
+use Rattle.cells.proofs.Parts.{whole-near}
 use Rattle.walk.specs.declared.Seen.{Seen}
 use Rattle.walk.specs.declared.Entered.{Entered}
-use Rattle.walk.specs.Steps.{in-block, Counted, Examined, Recorded}
+use Rattle.walk.specs.Steps.{in-block, Counted, Examined, Recorded, NearForm, Carried}
 
 -- ---- what a walk that no row refuses may begin with
 module _ (S : Sheet) (mode n : ℕ) (e : refusal (to-walk S mode n) ≡ 0) where
   pub room : 4 ^ S .k ≤ n
   room = walk-passed S mode n e .2
 
-  pub ready : {ground : Ground} → GroundOf S mode ground → Firm ground × IsCell (ground .k) 0 0 0 × (4 ^ ground .k ≤ n)
-  ready {ground} g = let p = walk-passed S mode n e in (firm (p .0) (p .1) g, whole-on-grid (ground .k), rw (g .depth) (p .2))
+  pub whole-form : {form : Form} → Tabled (S .d) (G S 0 0 0) form → NearForm S form (pos 0) (pos 0) (S .k) 0 0 0
+  whole-form t = record { degree = t .degree; depth = refl; near = whole-near (held-form (walk-passed S mode n e .0) (record { level = omega arith; column = omega arith; row = omega arith }) t) }
+
+  pub ready : {form : Form} → Tabled (S .d) (G S 0 0 0) form → Carried form (pos 0) (pos 0) (S .k) 0 0 0 × (4 ^ S .k ≤ n)
+  ready t = (record { sheet = S; near = whole-form t }, room)
 
 -- ---- a list of n entries written over the beginning of another: it is as long, and the later entries are as they were
 module _ (xs old : List ℕ) {n : ℕ} (long : length xs ≡ n) where

@@ -5,44 +5,52 @@ use crate::cell::colour_of;
 use crate::cell::cut_cell;
 use crate::cell::one_cell;
 use crate::paint::paint_block;
-use cells::Ground;
-ghost use mathlib.Core.Path.{_≡_};
-ghost use mathlib.Core.List.{[], _∷_};
+use local::Form;
 ghost use Prim.Native.Nat.{_^_, _≤_, _<_};
 ghost use lib.ListN.{length};
-ghost use Rattle.page.specs.Scaled.{IsCell};
-ghost use Rattle.verdicts.specs.Walking.{colour-of};
-ghost use Rattle.cells.specs.Cell.{Firm, verdicts-in};
-ghost use Rattle.walk.specs.Steps.{Examined};
+ghost use Rattle.walk.specs.Steps.{Carried, EachExamined, Held, EachCut};
 
 // A cell above or below is cleared and is not cut. An open cell at level k is coloured; one at a lower level is cut.
-pub fn examine(place: &mut [u8], ground: Ground, level: u32, p: u32, q: u32) -> Seen
-    requires { ⌜ Firm ground × IsCell (ground .k) level p q × (4 ^ ground .k ≤ length (now place)) ⌝ }
-    ensures { λ r. ⌜ Examined (verdicts-in ground) (ground .k) level p q (now (place .entry)) (now (place .exit)) r ⌝ }
+// The form is near to the cell's: it is moved by `across` and `along`, each -1, 0 or 1, in the cell's own copy.
+pub fn examine(
+    place: &mut [u8],
+    mut form: Form,
+    across: i64,
+    along: i64,
+    k: u32,
+    mode: u32,
+    level: u32,
+    p: u32,
+    q: u32,
+) -> Seen
+    requires { ⌜ Carried form across along k level p q × (4 ^ k ≤ length (now place)) ⌝ }
+    ensures { λ r. ⌜ EachExamined form across along k mode level p q (now (place .entry)) (now (place .exit)) r ⌝ }
 {
-    let verdict = cells::cell_verdict(ground, level, p, q);
+    let n = form.degree as usize;
+    let verdict = cells::settle(&mut form.places, n, across, along, mode);
     let colour = colour_of(verdict);
-    let k = ground.k;
     if colour == 1 {
         if level < k {
-            return cut(place, ground, level, p, q);
+            return cut(place, form, k, mode, level, p, q);
         }
     }
     paint_block(place, k, level, p, q, colour);
     one_cell(colour, bend_of(verdict))
 }
 
-// Four parts, in the order lower left, lower right, upper left, upper right.
-fn cut(place: &mut [u8], ground: Ground, level: u32, p: u32, q: u32) -> Seen
-    requires { ⌜ Firm ground × IsCell (ground .k) level p q × (4 ^ ground .k ≤ length (now place)) × (level < ground .k) × (colour-of (verdicts-in ground level p q ∷ []) ≡ 1) ⌝ }
-    ensures { λ r. ⌜ Examined (verdicts-in ground) (ground .k) level p q (now (place .entry)) (now (place .exit)) r ⌝ }
+// Four parts, in the order lower left, lower right, upper left, upper right. Each is handed the form of the whole, halved, and its side.
+fn cut(place: &mut [u8], mut form: Form, k: u32, mode: u32, level: u32, p: u32, q: u32) -> Seen
+    requires { ⌜ Held form k level p q × (4 ^ k ≤ length (now place)) × (level < k) ⌝ }
+    ensures { λ r. ⌜ EachCut form k mode level p q (now (place .entry)) (now (place .exit)) r ⌝ }
 {
+    let n = form.degree as usize;
+    tables::halve(&mut form.places, n);
     let next = level + 1;
     let left = 2 * p;
     let low = 2 * q;
-    let a = examine(place, ground, next, left, low);
-    let b = examine(place, ground, next, left + 1, low);
-    let c = examine(place, ground, next, left, low + 1);
-    let d = examine(place, ground, next, left + 1, low + 1);
+    let a = examine(place, form, -1, -1, k, mode, next, left, low);
+    let b = examine(place, form, 1, -1, k, mode, next, left + 1, low);
+    let c = examine(place, form, -1, 1, k, mode, next, left, low + 1);
+    let d = examine(place, form, 1, 1, k, mode, next, left + 1, low + 1);
     cut_cell(a, b, c, d)
 }

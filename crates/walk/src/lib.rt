@@ -6,7 +6,7 @@ mod opening;
 mod paint;
 mod refusals;
 
-use cells::Ground;
+use local::Form;
 ghost use Rattle.page.specs.Sheet.{sheet-of};
 ghost use Rattle.walk.specs.Promises.{RasterPromise, ListingPromise};
 
@@ -31,10 +31,10 @@ pub enum Listed {
     Refused(u32),
 }
 
-// A walk begun: the number of the refusal, and no ground; or 0, and the ground of the sheet.
+// A walk begun: the number of the refusal, and no form; or 0, and the local form of the whole sheet.
 struct Begun {
     pub refusal: u32,
-    pub ground: Ground,
+    pub form: Form,
 }
 
 // What a walk has seen: cells visited, finest cells coloured, and the largest bend of these.
@@ -67,8 +67,8 @@ pub fn raster(
     if begun.refusal != 0 {
         return Tallied::Refused(begun.refusal);
     }
-    let ground = begun.ground;
-    let seen = examine::examine(place, ground, 0, 0, 0);
+    let form = begun.form;
+    let seen = examine::examine(place, form, 0, 0, k, mode, 0, 0, 0);
     Tallied::Tally {
         visited: seen.visited,
         coloured: seen.coloured,
@@ -93,8 +93,8 @@ pub fn listing(
     if begun.refusal != 0 {
         return Listed::Refused(begun.refusal);
     }
-    let ground = begun.ground;
-    let entered = list::list_cell(place, 0, ground, 0, 0, 0);
+    let form = begun.form;
+    let entered = list::list_cell(place, 0, form, 0, 0, k, mode, 0, 0, 0);
     let seen = entered.seen;
     Listed::Records {
         length: entered.end,

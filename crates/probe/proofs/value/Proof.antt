@@ -1,11 +1,10 @@
--- `probe::value` meets its contract: F at a point is the first place of the form about it.
+-- `probe::value` meets its contract: F at a point is the value there of the table of scaled coefficients.
 use mathlib.Core.Path.{_≡_, sym, _∙_, ap}
 use mathlib.Core.Bool.{false}
 use native.Mathlib.Omega.{arith}
 use borrow.Author.Needs.{needs}
-use lib.IntN.{pos}
 use mir.Facts.{toZ-ofZ}
-use Rattle.local.specs.Table.{Tabled}
+use Rattle.local.specs.Form.{Tabled}
 use Rattle.numbers.proofs.Machine.{read64}
 use Rattle.probe.specs.declared.Valued.the-variants.{At, Refused}
 use Rattle.page.specs.Sheet.{Sheet, sheet-of}
@@ -16,8 +15,8 @@ use Rattle.probe.specs.Answers.{valued}
 use Rattle.probe.proofs.Promises.{value-kept}
 use Rattle.page.proofs.Rows.{point-passed, unless-refused, unless-none}
 use Rattle.page.proofs.Cells.{point-limit}
-use Rattle.cells.proofs.Scaling.{scalable}
-use Rattle.cells.proofs.Forms.{movable, value-first}
+use Rattle.cells.proofs.Widening.{scalable}
+use Rattle.cells.proofs.Making.{valuable, value-is}
 use Rattle.probe.proofs.value.Statement.{statement}
 use Rattle.probe.proofs.value.Tie as tie
 
@@ -50,22 +49,18 @@ returns c =
 scaled-form-requires : tie.Need-scaled-form-requires
 scaled-form-requires c κs = scalable (passed c .0)
 
-local-form-requires : tie.Need-local-form-requires
-local-form-requires c κs =
-    let s = c .before .before .before in let h = passed (c .before) in let l = point-limit (sheet s) (s .args .u) (s .args .v) (h .1) in let across = l .0 in let along = l .1 in
-    simp (toZ-ofZ (s .fits .u), toZ-ofZ (s .fits .v)) (movable (h .0) (scaled-is c) _ _ (pos 0) (omega arith) (omega arith))
-
-centre-of-requires : tie.Need-centre-of-requires
-centre-of-requires c κs = search needs
+value-at-requires : tie.Need-value-at-requires
+value-at-requires c κs =
+    let f = c .before .before in let s = f .before .before .before in let h = passed (f .before) in let l = point-limit (sheet s) (s .args .u) (s .args .v) (h .1) in
+    simp (toZ-ofZ (s .fits .u), toZ-ofZ (s .fits .v)) (valuable (h .0) (scaled-is f) _ _ (omega (arith, l .0, l .1)) (omega (arith, l .0, l .1)))
 
 returns-2 : tie.Need-returns-2
 unfolding valued
 returns-2 c =
-    let s = c .before .before .before .before .before in let h = passed (c .before .before .before) in
-    let w = rw (toZ-ofZ (s .fits .u), toZ-ofZ (s .fits .v)) at (c .before .local-form .ensures) in
-    let e = read64 (c .centre-of .result) (c .centre-of .ok) ∙ c .centre-of .ensures ∙ value-first (h .0) (scaled-is (c .before .before)) (s .args .u) (s .args .v) w in
+    let f = c .before .before .before in let o = f .before in let s = o .before .before in
+    let e = read64 (c .value-at .result) (c .value-at .ok) ∙ (rw (toZ-ofZ (s .fits .u), toZ-ofZ (s .fits .v)) at (c .value-at .ensures)) ∙ value-is (passed o .0) (scaled-is f) (s .args .u) (s .args .v) in
     value-kept (sheet s) (s .args .u) (s .args .v)
-    (rw e (unless-none Refused (At (F (sheet s) (s .args .u) (s .args .v))) (refusal (at-point (sheet s) (s .args .u) (s .args .v))) (sym (refusal-is (c .before .before .before .before)) ∙ c .before .before .before .if1 .left)))
+    (rw e (unless-none Refused (At (F (sheet s) (s .args .u) (s .args .v))) (refusal (at-point (sheet s) (s .args .u) (s .args .v))) (sym (refusal-is (o .before)) ∙ o .if1 .left)))
 
 pub value-spec : {M : Type 1} → statement M
 value-spec =
@@ -74,6 +69,5 @@ value-spec =
     point-refusal-requires
     returns
     scaled-form-requires
-    local-form-requires
-    centre-of-requires
+    value-at-requires
     returns-2)

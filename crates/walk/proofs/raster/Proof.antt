@@ -5,10 +5,9 @@ use lib.ListN.{length}
 use mir.Facts.{toZ-ofZ}
 use Rattle.page.specs.Sheet.{Sheet, sheet-of}
 use Rattle.page.specs.Refusals.{refusal, to-walk}
-use Rattle.cells.proofs.Grounds.{verdicts-are}
 use Rattle.walk.specs.Answers.{verdicts}
 use Rattle.walk.specs.Steps.{Begins, Examined}
-use Rattle.walk.proofs.Whole.{room, ready, raster-whole, counted-whole}
+use Rattle.walk.proofs.Whole.{room, whole-form, ready, raster-whole, counted-whole}
 use Rattle.walk.proofs.Promises.{raster-refused, raster-done}
 use Rattle.walk.proofs.raster.Statement.{statement}
 use Rattle.walk.proofs.raster.Tie as tie
@@ -31,16 +30,16 @@ returns : tie.Need-returns
 returns c = let s = c .before .before .before .before in raster-refused (sheet s) (s .args .mode) (s .args .place .now) (begins (c .before .before) .number) (c .if1 .taken)
 
 examine-requires : tie.Need-examine-requires
-examine-requires c κs = let b = c .before .before in let s = b .before .before .before .before in ready (sheet s) (s .args .mode) _ (none b) (begins (b .before .before) .ground (b .if1 .left))
+examine-requires c κs = let b = c .before .before in let s = b .before .before .before .before in ready (sheet s) (s .args .mode) _ (none b) (begins (b .before .before) .form (b .if1 .left))
 
 same-length : tie.Need-same-length
 same-length c = search needs
 
 returns-2 : tie.Need-returns-2
 returns-2 c =
-    let e = c .before .before in let b = e .before .before .before in let g = begins (b .before .before) .ground (b .if1 .left) in let s = b .before .before .before .before in let a = s .args in
+    let e = c .before .before in let b = e .before .before .before in let f = begins (b .before .before) .form (b .if1 .left) in let s = b .before .before .before .before in let a = s .args in
     let v = verdicts (sheet s) (a .mode) in
-    let w : Examined v (a .k) 0 0 0 (a .place .now) (e .examine .last .0) (e .examine .result) = rw (verdicts-are g, g .depth) at (e .examine .ensures) in
+    let w : Examined v (a .k) 0 0 0 (a .place .now) (e .examine .last .0) (e .examine .result) = e .examine .ensures (sheet s) (whole-form (sheet s) (a .mode) _ (none b) f) in
     let n = counted-whole v (a .k) (e .examine .result) (w .counted) in
     raster-done (sheet s) (a .mode) (a .place .now) (none b) n (raster-whole v (a .k) (a .place .now) _ (e .examine .result) (room (sheet s) (a .mode) _ (none b)) w)
 

@@ -6,7 +6,7 @@ use native.Mathlib.Omega.{arith}
 use lib.IntN.{natAbs}
 use mir.Facts.{toZ-ofZ}
 use Rattle.algebra.specs.Triangle.{place, triangle}
-use Rattle.local.specs.Horner.{at}
+use Rattle.tables.specs.Table.{at}
 use Rattle.page.specs.Weight.{axis-limit, weight}
 use Rattle.page.proofs.Weights.{limits-small}
 use Rattle.cells.proofs.refusals.sheet_weight.Statement.{statement}

@@ -1,21 +1,28 @@
 -- `walk::examine::examine` and `walk::examine::cut` meet their contracts, the two in one proof: k minus level falls.
 use mathlib.Core.Path.{_≡_, sym, _∙_, ap}
 use mathlib.Core.Logic.{inl, inr}
+use mathlib.Core.List.{[], _∷_}
 use Prim.Native.Nat.{ℕ, _+_, _*_, _-_, _≤_, _<_}
 use native.Mathlib.Omega.{arith}
 use borrow.Author.Needs.{needs}
 use borrow.Fn.Kinds.{In, Out}
 use borrow.Fn.PlainCycle.{Measures, is, falls, and}
-use Rattle.page.specs.Scaled.{IsCell}
-use mathlib.Core.List.{[], _∷_}
+use lib.IntN.{ℤ}
+use mir.Facts.{toZ-ofZ}
+use Rattle.forms.specs.Bounds.{mode-of}
 use Rattle.verdicts.specs.Judging.{carried-bend}
 use Rattle.verdicts.specs.Walking.{colour-of}
-use Rattle.cells.specs.Cell.{verdicts-in}
-use Rattle.cells.proofs.Grounds.{depth-small, cell-small}
-use Rattle.walk.proofs.Cells.{open-by, settled, few, part-on-grid, column-fits, row-fits}
+use Rattle.page.specs.Sheet.{Sheet}
+use Rattle.page.specs.Bounds.{verdict}
+use Rattle.cells.specs.Cell.{CellForm}
+use Rattle.cells.proofs.Parts.{Side, left, right}
+use Rattle.walk.specs.Steps.{NearForm, OwnForm, Held, Carried}
+use Rattle.walk.proofs.Cells.{open-by, settled, few, depth-small, own-cell, column-fits, row-fits, carried-part}
 use Rattle.walk.proofs.Painting.{examined-one, examined-cut}
-use Rattle.cells.proofs.cell_verdict.Kinds as cell-verdict-kinds
-use Rattle.cells.proofs.cell_verdict.Reads as cell-verdict
+use Rattle.cells.proofs.settle.Kinds as settle-kinds
+use Rattle.cells.proofs.settle.Reads as settle
+use Rattle.tables.proofs.halve.Kinds as halve-kinds
+use Rattle.tables.proofs.halve.Reads as halve
 use Rattle.walk.proofs.cell.colour_of.Kinds as colour-kinds
 use Rattle.walk.proofs.cell.colour_of.Reads as colour
 use Rattle.walk.proofs.cell.bend_of.Kinds as bend-kinds
@@ -37,10 +44,10 @@ use Rattle.walk.proofs.examine.+cut+examine.Tie.{close}
 
 -- ---- the levels left: examining a cell comes before cutting it
 abbrev μ-cut : Measures 1 cut-kinds.ps ℕ
-μ-cut κs a = 2 * (a .1 .0 .k - a .1 .1 .0)
+μ-cut κs a = 2 * (a .1 .1 .0 - a .1 .1 .1 .1 .0)
 
 abbrev μ-examine : Measures 1 examine-kinds.ps ℕ
-μ-examine κs a = 2 * (a .1 .0 .k - a .1 .1 .0) + 1
+μ-examine κs a = 2 * (a .1 .1 .1 .1 .0 - a .1 .1 .1 .1 .1 .1 .0) + 1
 
 abbrev cut-at : ℕ → In 1 cut-kinds.ps
 cut-at t = and 1 cut-kinds.ps (is 1 cut-kinds.ps μ-cut t) cut.Pre
@@ -55,12 +62,12 @@ abbrev examine-below : ℕ → In 1 examine-kinds.ps
 examine-below t = and 1 examine-kinds.ps (falls 1 examine-kinds.ps _<_ μ-examine t) examine.Pre
 
 -- ---- what each calls
-abbrev cut-calls : ℕ → In 1 examine-kinds.ps × Out 1 examine-kinds.ps examine-kinds.r × In 0 cut-cell-kinds.ps × Out 0 cut-cell-kinds.ps cut-cell-kinds.r
-cut-calls t = (examine-below t, examine.Post, cut-cell.Asked, cut-cell.Learnt)
+abbrev cut-calls : ℕ → In 1 halve-kinds.ps × Out 1 halve-kinds.ps halve-kinds.r × In 1 examine-kinds.ps × Out 1 examine-kinds.ps examine-kinds.r × In 0 cut-cell-kinds.ps × Out 0 cut-cell-kinds.ps cut-cell-kinds.r
+cut-calls t = (halve.Asked, halve.Learnt, examine-below t, examine.Post, cut-cell.Asked, cut-cell.Learnt)
 
 abbrev examine-calls : ℕ →
-    In 0 cell-verdict-kinds.ps
-    × Out 0 cell-verdict-kinds.ps cell-verdict-kinds.r
+    In 1 settle-kinds.ps
+    × Out 1 settle-kinds.ps settle-kinds.r
     × In 0 colour-kinds.ps
     × Out 0 colour-kinds.ps colour-kinds.r
     × In 1 cut-kinds.ps
@@ -71,102 +78,149 @@ abbrev examine-calls : ℕ →
     × Out 0 bend-kinds.ps bend-kinds.r
     × In 0 one-cell-kinds.ps
     × Out 0 one-cell-kinds.ps one-cell-kinds.r
-examine-calls t = (cell-verdict.Asked, cell-verdict.Learnt, colour.Asked, colour.Learnt, cut-below t, cut.Post, paint-block.Asked, paint-block.Learnt, bend.Asked, bend.Learnt, one-cell.Asked, one-cell.Learnt)
+examine-calls t = (settle.Asked, settle.Learnt, colour.Asked, colour.Learnt, cut-below t, cut.Post, paint-block.Asked, paint-block.Learnt, bend.Asked, bend.Learnt, one-cell.Asked, one-cell.Learnt)
 
 -- ---- cut
--- what is asked for at the start: the ground, the cell on the grid, the room, the level, and that the cell is open
+-- what is asked for at the start: that the form is the cell's own, the room, and the level
 abbrev Cut : ℕ → Type 0
 Cut t = cut-lts.Start (cut-calls t) (cut-at t) cut.Post
 
-small : (t : ℕ) (s : Cut t) → (s .args .p < 128) × (s .args .q < 128)
-small t s = let n = cell-small (s .pre .1 .0) _ _ _ (s .pre .1 .1) in (n .0, n .1)
+held : (t : ℕ) (s : Cut t) → Held (s .args .t2) (s .args .k) (s .args .level) (s .args .p) (s .args .q)
+held t s = s .pre .1 .0
 
-on-grid : (t : ℕ) (s : Cut t) (x y : ℕ) → x ≤ 2 * s .args .p + 1 → y ≤ 2 * s .args .q + 1 → IsCell (s .args .ground .k) (s .args .level + 1) x y
-on-grid t s = part-on-grid _ _ _ _ (s .pre .1 .3) (s .pre .1 .1)
+-- the form halved is near to the form of a part, whichever sheet it is
+part : (t : ℕ) (c : cut-lts.After-halve (cut-calls t) (cut-at t) cut.Post) {x z : ℤ} {r o : ℕ} → let a = c .before .before .before .args in
+    Side x (a .p) r → Side z (a .q) o → r ≤ 2 * a .p + 1 → o ≤ 2 * a .q + 1 → (S : Sheet) → OwnForm S (a .t2) (a .k) (a .level) (a .p) (a .q)
+    → NearForm S (record { degree = a .t2 .degree; places = c .halve .last .0 }) x z (a .k) (a .level + 1) r o
+part t c x z i o S f = carried-part S (c .before .before .before .pre .1 .2) x z i o f (c .halve .ensures)
+
+cut-cast-n : (t : ℕ) → cut-lts.Need-cast-n (cut-calls t) (cut-at t) cut.Post
+cut-cast-n t c = search needs
+
+cut-halve-requires : (t : ℕ) → cut-lts.Need-halve-requires (cut-calls t) (cut-at t) cut.Post
+cut-halve-requires t c κs = let h = held t (c .before .before) in record { long = h .own .own .long; small = omega (arith, h .own .degree, h .own .own .accepted .ranges .degree) }
 
 cut-add-next : (t : ℕ) → cut-lts.Need-add-next (cut-calls t) (cut-at t) cut.Post
-cut-add-next t c = omega (arith, depth-small (c .before .pre .1 .0), c .before .pre .1 .3)
+cut-add-next t c = let s = c .before .before .before in omega (arith, depth-small (held t s), s .pre .1 .2)
 
 cut-mul-left : (t : ℕ) → cut-lts.Need-mul-left (cut-calls t) (cut-at t) cut.Post
-cut-mul-left t c = let n = small t (c .before) in omega arith
+cut-mul-left t c = let n = column-fits (held t (c .before .before .before)) in omega arith
 
 cut-mul-low : (t : ℕ) → cut-lts.Need-mul-low (cut-calls t) (cut-at t) cut.Post
-cut-mul-low t c = let n = small t (c .before) in omega arith
+cut-mul-low t c = let n = row-fits (held t (c .before .before .before)) in omega arith
 
 cut-examine-requires : (t : ℕ) → cut-lts.Need-examine-requires (cut-calls t) (cut-at t) cut.Post
-cut-examine-requires t c κs = let s = c .before .before in (omega arith, (s .pre .1 .0, on-grid t s _ _ (omega arith) (omega arith), omega arith))
+cut-examine-requires t c κs =
+    let h = c .before in let s = h .before .before .before in let o = held t s in
+    (omega arith, (record { sheet = o .sheet; near = part t h (left (s .args .p)) (left (s .args .q)) (omega arith) (omega arith) (o .sheet) (o .own) }, omega arith))
 
 cut-add-examine : (t : ℕ) → cut-lts.Need-add-examine (cut-calls t) (cut-at t) cut.Post
-cut-add-examine t c = search (column-fits, row-fits, needs)
+cut-add-examine t c = let h = held t (c .before .before .before .before .before .before .before .before) in let m = column-fits h in let n = row-fits h in omega arith
 
 cut-examine-requires-2 : (t : ℕ) → cut-lts.Need-examine-requires-2 (cut-calls t) (cut-at t) cut.Post
-cut-examine-requires-2 t c κs = let s = c .before .before .before .before .before .before in (omega arith, (s .pre .1 .0, on-grid t s _ _ (omega arith) (omega arith), omega arith))
+cut-examine-requires-2 t c κs =
+    let h = c .before .before .before .before .before in let s = h .before .before .before in let o = held t s in
+    (omega arith, (record { sheet = o .sheet; near = part t h (right (s .args .p)) (left (s .args .q)) (omega arith) (omega arith) (o .sheet) (o .own) }, omega arith))
 
 cut-add-examine-2 : (t : ℕ) → cut-lts.Need-add-examine-2 (cut-calls t) (cut-at t) cut.Post
-cut-add-examine-2 t c = search (column-fits, row-fits, needs)
+cut-add-examine-2 t c = let h = held t (c .before .before .before .before .before .before .before .before .before .before .before .before) in let m = column-fits h in let n = row-fits h in omega arith
 
 cut-examine-requires-3 : (t : ℕ) → cut-lts.Need-examine-requires-3 (cut-calls t) (cut-at t) cut.Post
-cut-examine-requires-3 t c κs = let s = c .before .before .before .before .before .before .before .before .before .before in (omega arith, (s .pre .1 .0, on-grid t s _ _ (omega arith) (omega arith), omega arith))
+cut-examine-requires-3 t c κs =
+    let h = c .before .before .before .before .before .before .before .before .before in let s = h .before .before .before in let o = held t s in
+    (omega arith, (record { sheet = o .sheet; near = part t h (left (s .args .p)) (right (s .args .q)) (omega arith) (omega arith) (o .sheet) (o .own) }, omega arith))
 
 cut-add-examine-3 : (t : ℕ) → cut-lts.Need-add-examine-3 (cut-calls t) (cut-at t) cut.Post
-cut-add-examine-3 t c = search (column-fits, row-fits, needs)
+cut-add-examine-3 t c = let n = column-fits (held t (c .before .before .before .before .before .before .before .before .before .before .before .before .before .before .before .before)) in omega arith
 
 cut-add-examine-4 : (t : ℕ) → cut-lts.Need-add-examine-4 (cut-calls t) (cut-at t) cut.Post
-cut-add-examine-4 t c = search (column-fits, row-fits, needs)
+cut-add-examine-4 t c = let n = row-fits (held t (c .before .before .before .before .before .before .before .before .before .before .before .before .before .before .before .before)) in omega arith
 
 cut-examine-requires-4 : (t : ℕ) → cut-lts.Need-examine-requires-4 (cut-calls t) (cut-at t) cut.Post
-cut-examine-requires-4 t c κs = let s = c .before .before .before .before .before .before .before .before .before .before .before .before .before .before in (omega arith, (s .pre .1 .0, on-grid t s _ _ (omega arith) (omega arith), omega arith))
+cut-examine-requires-4 t c κs =
+    let h = c .before .before .before .before .before .before .before .before .before .before .before .before .before in let s = h .before .before .before in let o = held t s in
+    (omega arith, (record { sheet = o .sheet; near = part t h (right (s .args .p)) (right (s .args .q)) (omega arith) (omega arith) (o .sheet) (o .own) }, omega (arith, s .pre .1 .1, c .before .before .before .examine3 .kept .0, c .before .before .before .before .before .before .before .examine2 .kept .0, c .before .before .before .before .before .before .before .before .before .before .before .examine .kept .0)))
 
 cut-cut-cell-requires : (t : ℕ) → cut-lts.Need-cut-cell-requires (cut-calls t) (cut-at t) cut.Post
 cut-cut-cell-requires t c κs =
-    let s = c .before .before .before .before .before .before .before .before .before .before .before .before .before .before .before .before .before in let k = depth-small (s .pre .1 .0) in (
-      few _ _ _ _ _ _ k (c .before .before .before .before .before .before .before .before .before .before .before .before .before .before .examine .ensures .counted),
-      few _ _ _ _ _ _ k (c .before .before .before .before .before .before .before .before .before .before .examine2 .ensures .counted),
-      few _ _ _ _ _ _ k (c .before .before .before .before .before .before .examine3 .ensures .counted),
-      few _ _ _ _ _ _ k (c .before .before .examine4 .ensures .counted),
+    let h = c .before .before .before .before .before .before .before .before .before .before .before .before .before .before .before .before in let s = h .before .before .before in let a = s .args in let o = held t s in let k = depth-small o in (
+      few (verdict (o .sheet) (mode-of (a .mode))) _ _ _ _ _ k (c .before .before .before .before .before .before .before .before .before .before .before .before .before .before .examine .ensures (o .sheet) (part t h (left (a .p)) (left (a .q)) (omega arith) (omega arith) (o .sheet) (o .own)) .counted),
+      few (verdict (o .sheet) (mode-of (a .mode))) _ _ _ _ _ k (c .before .before .before .before .before .before .before .before .before .before .examine2 .ensures (o .sheet) (part t h (right (a .p)) (left (a .q)) (omega arith) (omega arith) (o .sheet) (o .own)) .counted),
+      few (verdict (o .sheet) (mode-of (a .mode))) _ _ _ _ _ k (c .before .before .before .before .before .before .examine3 .ensures (o .sheet) (part t h (left (a .p)) (right (a .q)) (omega arith) (omega arith) (o .sheet) (o .own)) .counted),
+      few (verdict (o .sheet) (mode-of (a .mode))) _ _ _ _ _ k (c .before .before .examine4 .ensures (o .sheet) (part t h (right (a .p)) (right (a .q)) (omega arith) (omega arith) (o .sheet) (o .own)) .counted),
     )
 
 cut-same-length : (t : ℕ) → cut-lts.Need-same-length (cut-calls t) (cut-at t) cut.Post
-cut-same-length t c =
-    c .before .before .before .examine4 .kept .0 ∙ c .before .before .before .before .before .before .before .examine3 .kept .0 ∙ c .before .before .before .before .before .before .before .before .before .before .before .examine2 .kept .0 ∙ c .before .before .before .before .before .before .before .before .before .before .before .before .before .before .before .examine .kept .0
+cut-same-length t c = c .before .before .before .examine4 .kept .0 ∙ c .before .before .before .before .before .before .before .examine3 .kept .0 ∙ c .before .before .before .before .before .before .before .before .before .before .before .examine2 .kept .0 ∙ c .before .before .before .before .before .before .before .before .before .before .before .before .before .before .before .examine .kept .0
 
 cut-returns : (t : ℕ) → cut-lts.Need-returns (cut-calls t) (cut-at t) cut.Post
-cut-returns t c =
-    let s = c .before .before .before .before .before .before .before .before .before .before .before .before .before .before .before .before .before .before in let a = s .args in
-    rw (c .cut-cell .ensures) (examined-cut (verdicts-in (a .ground)) (a .ground .k) (a .level) (a .p) (a .q) _ _ _ _ _ _ _ _ _ (s .pre .1 .3) (open-by _ (s .pre .1 .4))
-    (c .before .before .before .before .before .before .before .before .before .before .before .before .before .before .before .examine .ensures) (c .before .before .before .before .before .before .before .before .before .before .before .examine2 .ensures) (c .before .before .before .before .before .before .before .examine3 .ensures) (c .before .before .before .examine4 .ensures))
+cut-returns t c S f o =
+    let h = c .before .before .before .before .before .before .before .before .before .before .before .before .before .before .before .before .before in let s = h .before .before .before in let a = s .args in
+    rw (c .cut-cell .ensures) (examined-cut (verdict S (mode-of (a .mode))) (a .k) (a .level) (a .p) (a .q) _ _ _ _ _ _ _ _ _ (s .pre .1 .2) (open-by _ o)
+    (c .before .before .before .before .before .before .before .before .before .before .before .before .before .before .before .examine .ensures S (part t h (left (a .p)) (left (a .q)) (omega arith) (omega arith) S f))
+    (c .before .before .before .before .before .before .before .before .before .before .before .examine2 .ensures S (part t h (right (a .p)) (left (a .q)) (omega arith) (omega arith) S f))
+    (c .before .before .before .before .before .before .before .examine3 .ensures S (part t h (left (a .p)) (right (a .q)) (omega arith) (omega arith) S f))
+    (c .before .before .before .examine4 .ensures S (part t h (right (a .p)) (right (a .q)) (omega arith) (omega arith) S f)))
 
 -- ---- examine
+abbrev Examine : ℕ → Type 0
+Examine t = examine-lts.Start (examine-calls t) (examine-at t) examine.Post
+
+carried : (t : ℕ) (s : Examine t) → Carried (s .args .t2) (s .args .across) (s .args .along) (s .args .k) (s .args .level) (s .args .p) (s .args .q)
+carried t s = s .pre .1 .0
+
+-- the form is the cell's own, and the verdict the page's, whichever sheet it is
+own : (t : ℕ) (c : examine-lts.After-settle (examine-calls t) (examine-at t) examine.Post) → let a = c .before .before .before .args in
+    (S : Sheet) → NearForm S (a .t2) (a .across) (a .along) (a .k) (a .level) (a .p) (a .q) → OwnForm S (record { degree = a .t2 .degree; places = c .settle .last .0 }) (a .k) (a .level) (a .p) (a .q)
+own t c S n =
+    let s = c .before .before .before in let a = s .args in
+    record { degree = n .degree; depth = n .depth; own = (rw (toZ-ofZ (s .fits .across), toZ-ofZ (s .fits .along)) at (c .settle .ensures)) .form S (a .level) (a .p) (a .q) (n .degree) (n .near) }
+
+judged : (t : ℕ) (c : examine-lts.After-settle (examine-calls t) (examine-at t) examine.Post) → let a = c .before .before .before .args in
+    (S : Sheet) → NearForm S (a .t2) (a .across) (a .along) (a .k) (a .level) (a .p) (a .q) → c .settle .result ≡ verdict S (mode-of (a .mode)) (a .level) (a .p) (a .q)
+judged t c S n =
+    let s = c .before .before .before in let a = s .args in (rw (toZ-ofZ (s .fits .across), toZ-ofZ (s .fits .along)) at (c .settle .ensures)) .judged S (a .level) (a .p) (a .q) (n .degree) (n .near)
+
 -- the cell's own colour
-painted : (t : ℕ) (c : examine-lts.After-colour-of (examine-calls t) (examine-at t) examine.Post) →
-    let a = c .before .before .before .args in c .colour-of .result ≡ colour-of (verdicts-in (a .ground) (a .level) (a .p) (a .q) ∷ [])
-painted t c = c .colour-of .ensures ∙ ap (λ w. colour-of (w ∷ [])) (c .before .cell-verdict .ensures)
+painted : (t : ℕ) (c : examine-lts.After-colour-of (examine-calls t) (examine-at t) examine.Post) → let a = c .before .before .before .before .args in
+    (S : Sheet) → NearForm S (a .t2) (a .across) (a .along) (a .k) (a .level) (a .p) (a .q) → c .colour-of .result ≡ colour-of (verdict S (mode-of (a .mode)) (a .level) (a .p) (a .q) ∷ [])
+painted t c S n = c .colour-of .ensures ∙ ap (λ w. colour-of (w ∷ [])) (judged t (c .before) S n)
 
 -- a cell that is painted is not cut: it is cleared, or it is a finest one
-whole : (t : ℕ) (c : examine-lts.Joined1 (examine-calls t) (examine-at t) examine.Post) → let s = c .before .before .before .before in c .before .colour-of .result ≡ 1 → s .args .ground .k - s .args .level ≡ 0
+whole : (t : ℕ) (c : examine-lts.Joined1 (examine-calls t) (examine-at t) examine.Post) → let s = c .before .before .before .before .before in c .before .colour-of .result ≡ 1 → s .args .k - s .args .level ≡ 0
 whole t c e = elim (c .if1 .came) [
   | inl h ↦ let l = h .1 .left in omega arith
   | inr h ↦ omega (arith, h .left, e)
 ]
 
-examine-cell-verdict-requires : (t : ℕ) → examine-lts.Need-cell-verdict-requires (examine-calls t) (examine-at t) examine.Post
-examine-cell-verdict-requires t c κs = search needs
+examine-cast-n : (t : ℕ) → examine-lts.Need-cast-n (examine-calls t) (examine-at t) examine.Post
+examine-cast-n t c = search needs
+
+examine-settle-requires : (t : ℕ) → examine-lts.Need-settle-requires (examine-calls t) (examine-at t) examine.Post
+examine-settle-requires t c κs =
+    let s = c .before .before in let a = s .args in let h = carried t s in
+    rw (toZ-ofZ (s .fits .across), toZ-ofZ (s .fits .along)) (record { sheet = h .sheet; j = a .level; p = a .p; q = a .q; degree = h .near .degree; near = h .near .near })
 
 examine-colour-of-requires : (t : ℕ) → examine-lts.Need-colour-of-requires (examine-calls t) (examine-at t) examine.Post
 examine-colour-of-requires t c κs = search needs
 
 examine-cut-requires : (t : ℕ) → examine-lts.Need-cut-requires (examine-calls t) (examine-at t) examine.Post
 examine-cut-requires t c κs =
-    let s = c .before .before .before .before .before .before in (omega arith, (s .pre .1 .0, s .pre .1 .1, omega arith, omega (arith, depth-small (s .pre .1 .0)), sym (painted t (c .before .before .before)) ∙ c .before .before .if1 .taken))
+    let l = c .before in let m = l .before .before in let s = m .before .before .before .before in let h = carried t s in
+    (omega arith, (record { sheet = h .sheet; own = own t (m .before) (h .sheet) (h .near) }, omega arith, omega arith))
 
 examine-same-length : (t : ℕ) → examine-lts.Need-same-length (examine-calls t) (examine-at t) examine.Post
 examine-same-length t c = search needs
 
 examine-returns : (t : ℕ) → examine-lts.Need-returns (examine-calls t) (examine-at t) examine.Post
-examine-returns t c = c .before .before .cut .ensures
+examine-returns t c S n =
+    let u = c .before .before in let l = u .before .before in let m = l .before .before in
+    u .cut .ensures S (own t (m .before) S n) (sym (painted t m S n) ∙ l .before .if1 .taken)
 
 examine-paint-block-requires : (t : ℕ) → examine-lts.Need-paint-block-requires (examine-calls t) (examine-at t) examine.Post
-examine-paint-block-requires t c κs = let s = c .before .before .before .before .before in (depth-small (s .pre .1 .0), s .pre .1 .1, omega arith)
+examine-paint-block-requires t c κs =
+    let m = c .before .before in let s = m .before .before .before .before in let h = carried t s in let o : Held _ (s .args .k) (s .args .level) (s .args .p) (s .args .q) = record { sheet = h .sheet; own = own t (m .before) (h .sheet) (h .near) } in
+    (depth-small o, own-cell o, omega arith)
 
 examine-bend-of-requires : (t : ℕ) → examine-lts.Need-bend-of-requires (examine-calls t) (examine-at t) examine.Post
 examine-bend-of-requires t c κs = search needs
@@ -178,10 +232,10 @@ examine-same-length-2 : (t : ℕ) → examine-lts.Need-same-length-2 (examine-ca
 examine-same-length-2 t c = search needs
 
 examine-returns-2 : (t : ℕ) → examine-lts.Need-returns-2 (examine-calls t) (examine-at t) examine.Post
-examine-returns-2 t c =
-    let b = c .before in let j = b .before .before .before .before .before in let s = j .before .before .before .before in let a = s .args in
-    rw (c .one-cell .ensures, b .bend-of .ensures ∙ ap carried-bend (j .before .before .cell-verdict .ensures))
-    (examined-one (verdicts-in (a .ground)) (a .ground .k) (a .level) (a .p) (a .q) _ _ _ (settled _ (a .level) _ (a .p) (a .q) _ (painted t (j .before)) (whole t j)) (b .before .before .before .paint-block .ensures))
+examine-returns-2 t c S n =
+    let d = c .before in let j = d .before .before .before .before .before in let m = j .before in let s = m .before .before .before .before in let a = s .args in
+    rw (c .one-cell .ensures, d .bend-of .ensures ∙ ap carried-bend (judged t (m .before) S n))
+    (examined-one (verdict S (mode-of (a .mode))) (a .k) (a .level) (a .p) (a .q) _ _ _ (settled _ (a .level) _ (a .p) (a .q) _ (painted t m S n) (whole t j)) (d .before .before .before .paint-block .ensures))
 
 pub +cut+examine-spec : {M : Type 1} → statement M
 +cut+examine-spec =
@@ -192,6 +246,8 @@ pub +cut+examine-spec : {M : Type 1} → statement M
     (cut-calls t)
     (cut-at t)
     cut.Post
+    (cut-cast-n t)
+    (cut-halve-requires t)
     (cut-add-next t)
     (cut-mul-left t)
     (cut-mul-low t)
@@ -210,7 +266,8 @@ pub +cut+examine-spec : {M : Type 1} → statement M
     (examine-calls t)
     (examine-at t)
     examine.Post
-    (examine-cell-verdict-requires t)
+    (examine-cast-n t)
+    (examine-settle-requires t)
     (examine-colour-of-requires t)
     (examine-cut-requires t)
     (examine-same-length t)

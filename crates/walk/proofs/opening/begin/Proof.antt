@@ -1,5 +1,6 @@
 -- `walk::opening::begin` meets its contract.
 use mathlib.Core.Path.{_≡_, sym, _∙_}
+use native.Mathlib.Omega.{arith}
 use borrow.Author.Needs.{needs}
 use mir.Facts.{toZ-ofZ}
 use Rattle.page.specs.Sheet.{Sheet, sheet-of}
@@ -19,21 +20,21 @@ refusal-is c = let s = c .before in rw (toZ-ofZ (s .fits .x), toZ-ofZ (s .fits .
 walk-refusal-requires : tie.Need-walk-refusal-requires
 walk-refusal-requires c κs = search needs
 
-no-ground-requires : tie.Need-no-ground-requires
-no-ground-requires c κs = search needs
+no-form-requires : tie.Need-no-form-requires
+no-form-requires c κs = search needs
 
 returns : tie.Need-returns
-returns c = record { number = refusal-is (c .before .before); ground = λ z. absurd (c .before .if1 .taken z) }
+returns c = record { number = refusal-is (c .before .before); form = λ z. absurd (c .before .if1 .taken z) }
 
-ground-of-requires : tie.Need-ground-of-requires
-ground-of-requires c κs =
+cell-form-requires : tie.Need-cell-form-requires
+cell-form-requires c κs =
     let s = c .before .before in rw (toZ-ofZ (s .fits .x), toZ-ofZ (s .fits .y))
-    (walk-passed (sheet s) (s .args .mode) (s .args .entries) (sym (refusal-is (c .before)) ∙ c .if1 .left) .0)
+    (walk-passed (sheet s) (s .args .mode) (s .args .entries) (sym (refusal-is (c .before)) ∙ c .if1 .left) .0, record { level = omega arith; column = omega arith; row = omega arith })
 
 returns-2 : tie.Need-returns-2
 returns-2 c =
     let s = c .before .before .before in
-    record { number = refusal-is (c .before .before); ground = λ z. rw (toZ-ofZ (s .fits .x), toZ-ofZ (s .fits .y)) at (c .ground-of .ensures) }
+    record { number = refusal-is (c .before .before); form = λ z. rw (toZ-ofZ (s .fits .x), toZ-ofZ (s .fits .y)) at (c .cell-form .ensures) }
 
 pub begin-spec : {M : Type 1} → statement M
-begin-spec = tie.close (tie.spec walk-refusal-requires no-ground-requires returns ground-of-requires returns-2)
+begin-spec = tie.close (tie.spec walk-refusal-requires no-form-requires returns cell-form-requires returns-2)

@@ -1,0 +1,9 @@
+pub mod Adding
+pub mod Setting
+pub mod Moving
+pub mod Subtables
+pub mod Rowwise
+pub mod Shifting
+pub mod Both
+pub mod Powers
+pub mod Values

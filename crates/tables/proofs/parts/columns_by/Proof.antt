@@ -1,0 +1,37 @@
+-- `tables::parts::columns_by` meets its contract: what is not below 0 and not above is 0, and moved by that a table stays.
+use mathlib.Core.Path.{_≡_, subst}
+use native.Mathlib.Omega.{arith}
+use lib.IntN.{pos, negsuc}
+use mir.Facts.{toZ-ofZ}
+use Rattle.tables.specs.Moves.{ColumnsMovable}
+use Rattle.tables.proofs.Both.{columns-still, minus-one, plus-one, no-side}
+use Rattle.tables.proofs.parts.columns_by.Statement.{statement}
+use Rattle.tables.proofs.parts.columns_by.Tie as tie
+
+-- ---- the number by which the table is moved
+below : (c : tie.Then1) → c .before .args .s ≡ negsuc 0
+below c = let s = c .before in minus-one (s .args .s) (s .pre .1) (rw (toZ-ofZ (s .fits .s)) at (c .if1 .taken))
+
+above : (c : tie.Then2) → c .before .before .args .s ≡ pos 1
+above c = let s = c .before .before in plus-one (s .args .s) (s .pre .1) (rw (toZ-ofZ (s .fits .s)) at (c .if2 .taken))
+
+none : (c : tie.Else2) → c .before .before .args .s ≡ pos 0
+none c = let s = c .before .before in no-side (s .args .s) (rw (toZ-ofZ (s .fits .s)) at (c .before .if1 .left)) (rw (toZ-ofZ (s .fits .s)) at (c .if2 .left))
+
+move-columns-requires : tie.Need-move-columns-requires
+move-columns-requires c κs = rw (below (c .before)) at (c .before .before .pre .2)
+
+move-columns-requires-2 : tie.Need-move-columns-requires-2
+move-columns-requires-2 c κs = rw (above (c .before)) at (c .before .before .before .pre .2)
+
+returns : tie.Need-returns
+returns c = rw (below (c .before .before)) (c .move-columns .ensures)
+
+returns-2 : tie.Need-returns-2
+returns-2 c = rw (above (c .before .before)) (c .move-columns2 .ensures)
+
+returns-3 : tie.Need-returns-3
+returns-3 c = rw (none c) (columns-still (c .before .before .args .d) (c .before .before .args .places .now))
+
+pub columns-by-spec : {M : Type 1} → statement M
+columns-by-spec = tie.close (tie.spec move-columns-requires move-columns-requires-2 returns returns-2 returns-3)
