@@ -1,18 +1,15 @@
--- The local form of a cell on the machine: what the contracts of `settle` and of the walk say. None of it is the page's but what it cites.
+-- The local form of a cell on the machine: what the contracts of the walk say. None of it is the page's but what it cites.
 use mathlib.Core.Path.{_≡_}
 use mathlib.Core.List.{List}
 use Prim.Native.Nat.{ℕ, _+_, _≤_}
 use lib.IntN.{ℤ, pos, natAbs}
 use lib.ListN.{length}
-use Rattle.forms.specs.Bounds.{mode-of}
 use Rattle.forms.specs.Plane.{moved}
 use Rattle.tables.specs.Table.{held}
 use Rattle.tables.specs.Moves.{Movable}
-use Rattle.verdicts.specs.declared.Verdict.{Verdict}
 use Rattle.page.specs.Sheet.{Sheet}
 use Rattle.page.specs.Scaled.{IsCell}
 use Rattle.page.specs.LocalForm.{G}
-use Rattle.page.specs.Bounds.{verdict}
 use Rattle.page.specs.Weight.{Accepted}
 
 -- the places hold the local form of a cell of an accepted sheet
@@ -30,16 +27,3 @@ pub record Near (S : Sheet) (j p q : ℕ) (across along : ℤ) (places : List �
   pub sides : (natAbs across ≤ 1) × (natAbs along ≤ 1)
   pub movable : Movable (S .d) across along places
   pub each : (a b : ℕ) → a + b ≤ S .d → moved (S .d) (held places (S .d)) across along (pos 1) a b ≡ G S j p q a b
-
--- `settle`: for some cell of some sheet, and then for whichever it is, the places hold its local form, and the verdict is the page's
-pub record Settleable (d : ℕ) (across along : ℤ) (places : List ℤ) : Type 0 where
-  pub sheet : Sheet
-  pub j : ℕ
-  pub p : ℕ
-  pub q : ℕ
-  pub degree : d ≡ sheet .d
-  pub near : Near sheet j p q across along places
-
-pub record Settled (d : ℕ) (across along : ℤ) (mode : ℕ) (old new : List ℤ) (r : Verdict) : Type 0 where
-  pub form : (S : Sheet) (j p q : ℕ) → d ≡ S .d → Near S j p q across along old → CellForm S j p q new
-  pub judged : (S : Sheet) (j p q : ℕ) → d ≡ S .d → Near S j p q across along old → r ≡ verdict S (mode-of mode) j p q

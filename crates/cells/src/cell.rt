@@ -1,7 +1,6 @@
-// The local form of a cell, worked out from the sheet or from a form near it, and the verdict on the cell.
+// The local form of a cell, worked out from the sheet.
 use crate::scale::scaled_form;
 use local::Form;
-use verdicts::Verdict;
 ghost use mathlib.Core.Path.{_≡_};
 ghost use Prim.Native.Nat.{_+_, _*_, _-_, _^_, _≤_, _<_};
 ghost use lib.IntN.{pos, _+ℤ_, _*ℤ_, natAbs};
@@ -10,7 +9,6 @@ ghost use Rattle.page.specs.Sheet.{sheet-of};
 ghost use Rattle.page.specs.Scaled.{IsCell};
 ghost use Rattle.page.specs.LocalForm.{G};
 ghost use Rattle.page.specs.Weight.{Accepted};
-ghost use Rattle.cells.specs.Cell.{Settleable, Settled};
 
 // 2^(k+1)·X, and so of Y
 fn corner(z: i32, k: u32) -> i64
@@ -60,13 +58,4 @@ pub fn no_form() -> Form {
         degree: 0,
         places: [0; 45],
     }
-}
-
-// The table moved to the form of its cell, and the verdict on the cell.
-pub fn settle(places: &mut [i64; 45], d: usize, across: i64, along: i64, mode: u32) -> Verdict
-    requires { ⌜ Settleable d across along (now places) ⌝ }
-    ensures { λ r. ⌜ Settled d across along mode (now (places .entry)) (now (places .exit)) r ⌝ }
-{
-    tables::to_part(places, d, across, along);
-    local::judge(local::range_on(places, d, mode))
 }

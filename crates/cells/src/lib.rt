@@ -1,4 +1,4 @@
-// What the calls are made of: the conditions that they share, the local form of a cell, and the verdict on it.
+// What the calls are made of: the conditions that they share, and the local form of a cell.
 // An inner crate: what its functions require, every caller proves.
 mod cell;
 mod refusals;
@@ -6,7 +6,6 @@ mod scale;
 
 pub use cell::cell_form;
 pub use cell::no_form;
-pub use cell::settle;
 pub use refusals::count;
 pub use refusals::mode_refusal;
 pub use refusals::range_refusal;

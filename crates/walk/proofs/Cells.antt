@@ -5,7 +5,8 @@ use mathlib.Core.List.{List, [], _∷_}
 use Prim.Native.Nat.{ℕ, _+_, _*_, _-_, _/_, _^_, _≤_, _<_}
 use native.Mathlib.Omega.{arith}
 use lib.Dec.{eqb}
-use lib.IntN.{ℤ}
+use lib.IntN.{ℤ, natAbs}
+use lib.ListN.{length}
 use lib.Pow.{pow-add}
 use mir.Syntax.{w32}
 use mir.Val.{Fits}
@@ -18,11 +19,17 @@ use Rattle.verdicts.proofs.Bounds.{visited-small, coloured-small}
 use Rattle.page.specs.Scaled.{IsCell}
 use Rattle.page.specs.Sheet.{Sheet}
 use Rattle.page.proofs.Cells.{column-small, row-small}
+use Rattle.forms.specs.Bounds.{Mode}
+use Rattle.page.specs.Bounds.{verdict}
+use Rattle.tables.specs.Table.{held}
+use Rattle.tables.specs.Moves.{Movable, Moved}
 use Rattle.tables.specs.Scaling.{Halved}
+use Rattle.local.specs.Range.{Light, range-of, judged-by}
 use Rattle.local.specs.declared.Form.{Form}
+use Rattle.cells.proofs.Forms.{settled-form, cell-light, verdict-by}
 use Rattle.cells.proofs.Parts.{Side, part-near}
 use Rattle.walk.specs.declared.Seen.{Seen}
-use Rattle.walk.specs.Steps.{one-seen, cut-seen, Few, Counted, OwnForm, NearForm, Held}
+use Rattle.walk.specs.Steps.{one-seen, cut-seen, Few, Counted, OwnForm, NearForm, Held, Carried}
 
 -- a cell whose own colour is 1 is open
 pub open-by : (w : Verdict) → colour-of (w ∷ []) ≡ 1 → Opened w
@@ -87,6 +94,25 @@ part-on-grid k level p q l o x y a b = record {
   column = omega (arith, pow-add 2 level 1, o .column);
   row = omega (arith, pow-add 2 level 1, o .row);
 }
+
+-- ---- a form near to the cell's: it may be moved, and moved it is the cell's own
+pub may-move : {form : Form} {across along : ℤ} {k level p q : ℕ} → Carried form across along k level p q →
+    (length (form .places) ≡ 45) × (form .degree ≤ 8) × (natAbs across ≤ 1) × (natAbs along ≤ 1) × Movable (form .degree) across along (form .places)
+may-move {form} {across} {along} h =
+    let n = h .near .near in let e = h .near .degree in
+    (n .long, omega (arith, e, n .accepted .ranges .degree), n .sides .0, n .sides .1, subst (λ d. Movable d across along (form .places)) (sym e) (n .movable))
+
+pub moved-own : {form : Form} {across along : ℤ} {k level p q : ℕ} {places : List ℤ} → Moved (form .degree) across along (form .places) places →
+    (S : Sheet) → NearForm S form across along k level p q → OwnForm S (record { degree = form .degree; places = places }) k level p q
+moved-own {form} {across} {along} {places = places} m S n =
+    record { degree = n .degree; depth = n .depth; own = settled-form (n .near) (subst (λ d. Moved d across along (form .places) places) (n .degree) m) }
+
+-- its own form is light, and its range gives the page's verdict
+pub own-light : {S : Sheet} {form : Form} {k level p q : ℕ} → OwnForm S form k level p q → Light (form .degree) (form .places)
+own-light {S} {form} {k} {level} {p} {q} o = subst (λ d. Light d (form .places)) (sym (o .degree)) (cell-light S level p q (o .own))
+
+pub own-judged : {S : Sheet} {form : Form} {k level p q : ℕ} → OwnForm S form k level p q → (mode : Mode) → judged-by (range-of (form .degree) mode (held (form .places) (form .degree))) ≡ verdict S mode level p q
+own-judged {S} {form} {k} {level} {p} {q} o mode = ap (λ d. judged-by (range-of d mode (held (form .places) d))) (o .degree) ∙ verdict-by S level p q (held (form .places) (S .d)) (o .own .each) mode
 
 -- ---- a cell whose own form is at hand: its numbers are small, and so the columns and rows of its parts fit 32 bits
 module _ {form : Form} {k level p q : ℕ} (h : Held form k level p q) where

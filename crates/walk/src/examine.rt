@@ -27,7 +27,8 @@ pub fn examine(
     ensures { λ r. ⌜ EachExamined form across along k mode level p q (now (place .entry)) (now (place .exit)) r ⌝ }
 {
     let n = form.degree as usize;
-    let verdict = cells::settle(&mut form.places, n, across, along, mode);
+    tables::to_part(&mut form.places, n, across, along);
+    let verdict = local::judge(local::range_on(&form.places, n, mode));
     let colour = colour_of(verdict);
     if colour == 1 {
         if level < k {

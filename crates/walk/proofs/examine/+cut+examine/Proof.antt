@@ -14,13 +14,17 @@ use Rattle.verdicts.specs.Judging.{carried-bend}
 use Rattle.verdicts.specs.Walking.{colour-of}
 use Rattle.page.specs.Sheet.{Sheet}
 use Rattle.page.specs.Bounds.{verdict}
-use Rattle.cells.specs.Cell.{CellForm}
+use Rattle.local.specs.Range.{judged-by}
 use Rattle.cells.proofs.Parts.{Side, left, right}
 use Rattle.walk.specs.Steps.{NearForm, OwnForm, Held, Carried}
-use Rattle.walk.proofs.Cells.{open-by, settled, few, depth-small, own-cell, column-fits, row-fits, carried-part}
+use Rattle.walk.proofs.Cells.{open-by, settled, few, depth-small, own-cell, column-fits, row-fits, may-move, moved-own, own-light, own-judged, carried-part}
 use Rattle.walk.proofs.Painting.{examined-one, examined-cut}
-use Rattle.cells.proofs.settle.Kinds as settle-kinds
-use Rattle.cells.proofs.settle.Reads as settle
+use Rattle.tables.proofs.to_part.Kinds as to-part-kinds
+use Rattle.tables.proofs.to_part.Reads as to-part
+use Rattle.local.proofs.range_on.Kinds as range-on-kinds
+use Rattle.local.proofs.range_on.Reads as range-on
+use Rattle.local.proofs.judge.Kinds as judge-kinds
+use Rattle.local.proofs.judge.Reads as judge
 use Rattle.tables.proofs.halve.Kinds as halve-kinds
 use Rattle.tables.proofs.halve.Reads as halve
 use Rattle.walk.proofs.cell.colour_of.Kinds as colour-kinds
@@ -66,8 +70,12 @@ abbrev cut-calls : ℕ → In 1 halve-kinds.ps × Out 1 halve-kinds.ps halve-kin
 cut-calls t = (halve.Asked, halve.Learnt, examine-below t, examine.Post, cut-cell.Asked, cut-cell.Learnt)
 
 abbrev examine-calls : ℕ →
-    In 1 settle-kinds.ps
-    × Out 1 settle-kinds.ps settle-kinds.r
+    In 1 to-part-kinds.ps
+    × Out 1 to-part-kinds.ps to-part-kinds.r
+    × In 1 range-on-kinds.ps
+    × Out 1 range-on-kinds.ps range-on-kinds.r
+    × In 0 judge-kinds.ps
+    × Out 0 judge-kinds.ps judge-kinds.r
     × In 0 colour-kinds.ps
     × Out 0 colour-kinds.ps colour-kinds.r
     × In 1 cut-kinds.ps
@@ -78,7 +86,7 @@ abbrev examine-calls : ℕ →
     × Out 0 bend-kinds.ps bend-kinds.r
     × In 0 one-cell-kinds.ps
     × Out 0 one-cell-kinds.ps one-cell-kinds.r
-examine-calls t = (settle.Asked, settle.Learnt, colour.Asked, colour.Learnt, cut-below t, cut.Post, paint-block.Asked, paint-block.Learnt, bend.Asked, bend.Learnt, one-cell.Asked, one-cell.Learnt)
+examine-calls t = (to-part.Asked, to-part.Learnt, range-on.Asked, range-on.Learnt, judge.Asked, judge.Learnt, colour.Asked, colour.Learnt, cut-below t, cut.Post, paint-block.Asked, paint-block.Learnt, bend.Asked, bend.Learnt, one-cell.Asked, one-cell.Learnt)
 
 -- ---- cut
 -- what is asked for at the start: that the form is the cell's own, the room, and the level
@@ -170,24 +178,24 @@ carried : (t : ℕ) (s : Examine t) → Carried (s .args .t2) (s .args .across) 
 carried t s = s .pre .1 .0
 
 -- the form is the cell's own, and the verdict the page's, whichever sheet it is
-own : (t : ℕ) (c : examine-lts.After-settle (examine-calls t) (examine-at t) examine.Post) → let a = c .before .before .before .args in
-    (S : Sheet) → NearForm S (a .t2) (a .across) (a .along) (a .k) (a .level) (a .p) (a .q) → OwnForm S (record { degree = a .t2 .degree; places = c .settle .last .0 }) (a .k) (a .level) (a .p) (a .q)
-own t c S n =
-    let s = c .before .before .before in let a = s .args in
-    record { degree = n .degree; depth = n .depth; own = (rw (toZ-ofZ (s .fits .across), toZ-ofZ (s .fits .along)) at (c .settle .ensures)) .form S (a .level) (a .p) (a .q) (n .degree) (n .near) }
+own : (t : ℕ) (c : examine-lts.After-to-part (examine-calls t) (examine-at t) examine.Post) → let a = c .before .before .before .args in
+    (S : Sheet) → NearForm S (a .t2) (a .across) (a .along) (a .k) (a .level) (a .p) (a .q) → OwnForm S (record { degree = a .t2 .degree; places = c .to-part .last .0 }) (a .k) (a .level) (a .p) (a .q)
+own t c = let s = c .before .before .before in moved-own (rw (toZ-ofZ (s .fits .across), toZ-ofZ (s .fits .along)) at (c .to-part .ensures))
 
-judged : (t : ℕ) (c : examine-lts.After-settle (examine-calls t) (examine-at t) examine.Post) → let a = c .before .before .before .args in
-    (S : Sheet) → NearForm S (a .t2) (a .across) (a .along) (a .k) (a .level) (a .p) (a .q) → c .settle .result ≡ verdict S (mode-of (a .mode)) (a .level) (a .p) (a .q)
-judged t c S n =
-    let s = c .before .before .before in let a = s .args in (rw (toZ-ofZ (s .fits .across), toZ-ofZ (s .fits .along)) at (c .settle .ensures)) .judged S (a .level) (a .p) (a .q) (n .degree) (n .near)
+some-own : (t : ℕ) (c : examine-lts.After-to-part (examine-calls t) (examine-at t) examine.Post) → let a = c .before .before .before .args in Held (record { degree = a .t2 .degree; places = c .to-part .last .0 }) (a .k) (a .level) (a .p) (a .q)
+some-own t c = let h = carried t (c .before .before .before) in record { sheet = h .sheet; own = own t c (h .sheet) (h .near) }
+
+judged : (t : ℕ) (c : examine-lts.After-judge (examine-calls t) (examine-at t) examine.Post) → let a = c .before .before .before .before .before .before .before .args in
+    (S : Sheet) → NearForm S (a .t2) (a .across) (a .along) (a .k) (a .level) (a .p) (a .q) → c .judge .result ≡ verdict S (mode-of (a .mode)) (a .level) (a .p) (a .q)
+judged t c S n = let m = c .before .before .before .before in c .judge .ensures ∙ ap judged-by (c .before .range-on .ensures) ∙ own-judged (own t m S n) (mode-of (m .before .before .before .args .mode))
 
 -- the cell's own colour
-painted : (t : ℕ) (c : examine-lts.After-colour-of (examine-calls t) (examine-at t) examine.Post) → let a = c .before .before .before .before .args in
+painted : (t : ℕ) (c : examine-lts.After-colour-of (examine-calls t) (examine-at t) examine.Post) → let a = c .before .before .before .before .before .before .before .before .args in
     (S : Sheet) → NearForm S (a .t2) (a .across) (a .along) (a .k) (a .level) (a .p) (a .q) → c .colour-of .result ≡ colour-of (verdict S (mode-of (a .mode)) (a .level) (a .p) (a .q) ∷ [])
 painted t c S n = c .colour-of .ensures ∙ ap (λ w. colour-of (w ∷ [])) (judged t (c .before) S n)
 
 -- a cell that is painted is not cut: it is cleared, or it is a finest one
-whole : (t : ℕ) (c : examine-lts.Joined1 (examine-calls t) (examine-at t) examine.Post) → let s = c .before .before .before .before .before in c .before .colour-of .result ≡ 1 → s .args .k - s .args .level ≡ 0
+whole : (t : ℕ) (c : examine-lts.Joined1 (examine-calls t) (examine-at t) examine.Post) → let s = c .before .before .before .before .before .before .before .before .before in c .before .colour-of .result ≡ 1 → s .args .k - s .args .level ≡ 0
 whole t c e = elim (c .if1 .came) [
   | inl h ↦ let l = h .1 .left in omega arith
   | inr h ↦ omega (arith, h .left, e)
@@ -196,18 +204,20 @@ whole t c e = elim (c .if1 .came) [
 examine-cast-n : (t : ℕ) → examine-lts.Need-cast-n (examine-calls t) (examine-at t) examine.Post
 examine-cast-n t c = search needs
 
-examine-settle-requires : (t : ℕ) → examine-lts.Need-settle-requires (examine-calls t) (examine-at t) examine.Post
-examine-settle-requires t c κs =
-    let s = c .before .before in let a = s .args in let h = carried t s in
-    rw (toZ-ofZ (s .fits .across), toZ-ofZ (s .fits .along)) (record { sheet = h .sheet; j = a .level; p = a .p; q = a .q; degree = h .near .degree; near = h .near .near })
+examine-to-part-requires : (t : ℕ) → examine-lts.Need-to-part-requires (examine-calls t) (examine-at t) examine.Post
+examine-to-part-requires t c κs = let s = c .before .before in rw (toZ-ofZ (s .fits .across), toZ-ofZ (s .fits .along)) (may-move (carried t s))
+
+examine-range-on-requires : (t : ℕ) → examine-lts.Need-range-on-requires (examine-calls t) (examine-at t) examine.Post
+examine-range-on-requires t c κs = own-light (some-own t (c .before .before) .own)
+
+examine-judge-requires : (t : ℕ) → examine-lts.Need-judge-requires (examine-calls t) (examine-at t) examine.Post
+examine-judge-requires t c κs = search needs
 
 examine-colour-of-requires : (t : ℕ) → examine-lts.Need-colour-of-requires (examine-calls t) (examine-at t) examine.Post
 examine-colour-of-requires t c κs = search needs
 
 examine-cut-requires : (t : ℕ) → examine-lts.Need-cut-requires (examine-calls t) (examine-at t) examine.Post
-examine-cut-requires t c κs =
-    let l = c .before in let m = l .before .before in let s = m .before .before .before .before in let h = carried t s in
-    (omega arith, (record { sheet = h .sheet; own = own t (m .before) (h .sheet) (h .near) }, omega arith, omega arith))
+examine-cut-requires t c κs = let l = c .before in (omega arith, (some-own t (l .before .before .before .before .before .before .before), l .before .before .before .before .before .before .before .before .before .before .pre .1 .1, l .if2 .taken))
 
 examine-same-length : (t : ℕ) → examine-lts.Need-same-length (examine-calls t) (examine-at t) examine.Post
 examine-same-length t c = search needs
@@ -215,12 +225,10 @@ examine-same-length t c = search needs
 examine-returns : (t : ℕ) → examine-lts.Need-returns (examine-calls t) (examine-at t) examine.Post
 examine-returns t c S n =
     let u = c .before .before in let l = u .before .before in let m = l .before .before in
-    u .cut .ensures S (own t (m .before) S n) (sym (painted t m S n) ∙ l .before .if1 .taken)
+    u .cut .ensures S (own t (m .before .before .before .before .before) S n) (sym (painted t m S n) ∙ l .before .if1 .taken)
 
 examine-paint-block-requires : (t : ℕ) → examine-lts.Need-paint-block-requires (examine-calls t) (examine-at t) examine.Post
-examine-paint-block-requires t c κs =
-    let m = c .before .before in let s = m .before .before .before .before in let h = carried t s in let o : Held _ (s .args .k) (s .args .level) (s .args .p) (s .args .q) = record { sheet = h .sheet; own = own t (m .before) (h .sheet) (h .near) } in
-    (depth-small o, own-cell o, omega arith)
+examine-paint-block-requires t c κs = let o = some-own t (c .before .before .before .before .before .before .before) in (depth-small o, own-cell o, omega arith)
 
 examine-bend-of-requires : (t : ℕ) → examine-lts.Need-bend-of-requires (examine-calls t) (examine-at t) examine.Post
 examine-bend-of-requires t c κs = search needs
@@ -233,7 +241,7 @@ examine-same-length-2 t c = search needs
 
 examine-returns-2 : (t : ℕ) → examine-lts.Need-returns-2 (examine-calls t) (examine-at t) examine.Post
 examine-returns-2 t c S n =
-    let d = c .before in let j = d .before .before .before .before .before in let m = j .before in let s = m .before .before .before .before in let a = s .args in
+    let d = c .before in let j = d .before .before .before .before .before in let m = j .before in let s = m .before .before .before .before .before .before .before .before in let a = s .args in
     rw (c .one-cell .ensures, d .bend-of .ensures ∙ ap carried-bend (judged t (m .before) S n))
     (examined-one (verdict S (mode-of (a .mode))) (a .k) (a .level) (a .p) (a .q) _ _ _ (settled _ (a .level) _ (a .p) (a .q) _ (painted t m S n) (whole t j)) (d .before .before .before .paint-block .ensures))
 
@@ -267,7 +275,9 @@ pub +cut+examine-spec : {M : Type 1} → statement M
     (examine-at t)
     examine.Post
     (examine-cast-n t)
-    (examine-settle-requires t)
+    (examine-to-part-requires t)
+    (examine-range-on-requires t)
+    (examine-judge-requires t)
     (examine-colour-of-requires t)
     (examine-cut-requires t)
     (examine-same-length t)

@@ -15,13 +15,18 @@ use Rattle.verdicts.specs.Judging.{carried-bend}
 use Rattle.verdicts.specs.Walking.{colour-of}
 use Rattle.page.specs.Sheet.{Sheet}
 use Rattle.page.specs.Bounds.{verdict}
+use Rattle.local.specs.Range.{judged-by}
 use Rattle.page.proofs.Cells.{column-small, row-small}
 use Rattle.cells.proofs.Parts.{Side, left, right}
 use Rattle.walk.specs.Steps.{NearForm, OwnForm, Held, Carried}
-use Rattle.walk.proofs.Cells.{open-by, Settled, settled, few, depth-small, own-cell, column-fits, row-fits, carried-part}
+use Rattle.walk.proofs.Cells.{open-by, Settled, settled, few, depth-small, own-cell, column-fits, row-fits, may-move, moved-own, own-light, own-judged, carried-part}
 use Rattle.walk.proofs.Recording.{room-one, room-first, room-second, room-third, room-fourth, recorded-one, recorded-cut}
-use Rattle.cells.proofs.settle.Kinds as settle-kinds
-use Rattle.cells.proofs.settle.Reads as settle-reads
+use Rattle.tables.proofs.to_part.Kinds as to-part-kinds
+use Rattle.tables.proofs.to_part.Reads as to-part-reads
+use Rattle.local.proofs.range_on.Kinds as range-on-kinds
+use Rattle.local.proofs.range_on.Reads as range-on-reads
+use Rattle.local.proofs.judge.Kinds as judge-kinds
+use Rattle.local.proofs.judge.Reads as judge-reads
 use Rattle.tables.proofs.halve.Kinds as halve-kinds
 use Rattle.tables.proofs.halve.Reads as halve-reads
 use Rattle.walk.proofs.cell.colour_of.Kinds as colour-of-kinds
@@ -64,8 +69,12 @@ list-parts-below t = and 1 list-parts-kinds.ps (falls 1 list-parts-kinds.ps _<_ 
 
 -- ---- what each of the two calls
 abbrev list-cell-calls : ℕ →
-    In 1 settle-kinds.ps
-    × Out 1 settle-kinds.ps settle-kinds.r
+    In 1 to-part-kinds.ps
+    × Out 1 to-part-kinds.ps to-part-kinds.r
+    × In 1 range-on-kinds.ps
+    × Out 1 range-on-kinds.ps range-on-kinds.r
+    × In 0 judge-kinds.ps
+    × Out 0 judge-kinds.ps judge-kinds.r
     × In 0 colour-of-kinds.ps
     × Out 0 colour-of-kinds.ps colour-of-kinds.r
     × In 1 list-parts-kinds.ps
@@ -77,8 +86,12 @@ abbrev list-cell-calls : ℕ →
     × In 0 one-cell-kinds.ps
     × Out 0 one-cell-kinds.ps one-cell-kinds.r
 list-cell-calls t = (
-  settle-reads.Asked,
-  settle-reads.Learnt,
+  to-part-reads.Asked,
+  to-part-reads.Learnt,
+  range-on-reads.Asked,
+  range-on-reads.Learnt,
+  judge-reads.Asked,
+  judge-reads.Learnt,
   colour-of-reads.Asked,
   colour-of-reads.Learnt,
   list-parts-below t,
@@ -108,37 +121,39 @@ carried : (t : ℕ) (s : Cell t) → Carried (s .args .t3) (s .args .across) (s 
 carried t s = s .pre .1 .0
 
 -- the form is the cell's own, and the verdict the page's, whichever sheet it is
-own : (t : ℕ) (c : list-cell-lts.After-settle (list-cell-calls t) (list-cell-at t) list-cell.Post) → let a = c .before .before .before .args in
-    (S : Sheet) → NearForm S (a .t3) (a .across) (a .along) (a .k) (a .level) (a .p) (a .q) → OwnForm S (record { degree = a .t3 .degree; places = c .settle .last .0 }) (a .k) (a .level) (a .p) (a .q)
-own t c S n =
-    let s = c .before .before .before in let a = s .args in
-    record { degree = n .degree; depth = n .depth; own = (rw (toZ-ofZ (s .fits .across), toZ-ofZ (s .fits .along)) at (c .settle .ensures)) .form S (a .level) (a .p) (a .q) (n .degree) (n .near) }
+own : (t : ℕ) (c : list-cell-lts.After-to-part (list-cell-calls t) (list-cell-at t) list-cell.Post) → let a = c .before .before .before .args in
+    (S : Sheet) → NearForm S (a .t3) (a .across) (a .along) (a .k) (a .level) (a .p) (a .q) → OwnForm S (record { degree = a .t3 .degree; places = c .to-part .last .0 }) (a .k) (a .level) (a .p) (a .q)
+own t c = let s = c .before .before .before in moved-own (rw (toZ-ofZ (s .fits .across), toZ-ofZ (s .fits .along)) at (c .to-part .ensures))
 
-judged : (t : ℕ) (c : list-cell-lts.After-settle (list-cell-calls t) (list-cell-at t) list-cell.Post) → let a = c .before .before .before .args in
-    (S : Sheet) → NearForm S (a .t3) (a .across) (a .along) (a .k) (a .level) (a .p) (a .q) → c .settle .result ≡ verdict S (mode-of (a .mode)) (a .level) (a .p) (a .q)
-judged t c S n =
-    let s = c .before .before .before in let a = s .args in (rw (toZ-ofZ (s .fits .across), toZ-ofZ (s .fits .along)) at (c .settle .ensures)) .judged S (a .level) (a .p) (a .q) (n .degree) (n .near)
+some-own : (t : ℕ) (c : list-cell-lts.After-to-part (list-cell-calls t) (list-cell-at t) list-cell.Post) → let a = c .before .before .before .args in Held (record { degree = a .t3 .degree; places = c .to-part .last .0 }) (a .k) (a .level) (a .p) (a .q)
+some-own t c = let h = carried t (c .before .before .before) in record { sheet = h .sheet; own = own t c (h .sheet) (h .near) }
+
+judged : (t : ℕ) (c : list-cell-lts.After-judge (list-cell-calls t) (list-cell-at t) list-cell.Post) → let a = c .before .before .before .before .before .before .before .args in
+    (S : Sheet) → NearForm S (a .t3) (a .across) (a .along) (a .k) (a .level) (a .p) (a .q) → c .judge .result ≡ verdict S (mode-of (a .mode)) (a .level) (a .p) (a .q)
+judged t c S n = let m = c .before .before .before .before in c .judge .ensures ∙ ap judged-by (c .before .range-on .ensures) ∙ own-judged (own t m S n) (mode-of (m .before .before .before .args .mode))
 
 -- the cell's own colour
-painted : (t : ℕ) (c : list-cell-lts.After-colour-of (list-cell-calls t) (list-cell-at t) list-cell.Post) → let a = c .before .before .before .before .args in
+painted : (t : ℕ) (c : list-cell-lts.After-colour-of (list-cell-calls t) (list-cell-at t) list-cell.Post) → let a = c .before .before .before .before .before .before .before .before .args in
     (S : Sheet) → NearForm S (a .t3) (a .across) (a .along) (a .k) (a .level) (a .p) (a .q) → c .colour-of .result ≡ colour-of (verdict S (mode-of (a .mode)) (a .level) (a .p) (a .q) ∷ [])
 painted t c S n = c .colour-of .ensures ∙ ap (λ w. colour-of (w ∷ [])) (judged t (c .before) S n)
 
 list-cell-cast-n : (t : ℕ) → list-cell-lts.Need-cast-n (list-cell-calls t) (list-cell-at t) list-cell.Post
 list-cell-cast-n t c = search needs
 
-list-cell-settle-requires : (t : ℕ) → list-cell-lts.Need-settle-requires (list-cell-calls t) (list-cell-at t) list-cell.Post
-list-cell-settle-requires t c κs =
-    let s = c .before .before in let a = s .args in let h = carried t s in
-    rw (toZ-ofZ (s .fits .across), toZ-ofZ (s .fits .along)) (record { sheet = h .sheet; j = a .level; p = a .p; q = a .q; degree = h .near .degree; near = h .near .near })
+list-cell-to-part-requires : (t : ℕ) → list-cell-lts.Need-to-part-requires (list-cell-calls t) (list-cell-at t) list-cell.Post
+list-cell-to-part-requires t c κs = let s = c .before .before in rw (toZ-ofZ (s .fits .across), toZ-ofZ (s .fits .along)) (may-move (carried t s))
+
+list-cell-range-on-requires : (t : ℕ) → list-cell-lts.Need-range-on-requires (list-cell-calls t) (list-cell-at t) list-cell.Post
+list-cell-range-on-requires t c κs = own-light (some-own t (c .before .before) .own)
+
+list-cell-judge-requires : (t : ℕ) → list-cell-lts.Need-judge-requires (list-cell-calls t) (list-cell-at t) list-cell.Post
+list-cell-judge-requires t c κs = search needs
 
 list-cell-colour-of-requires : (t : ℕ) → list-cell-lts.Need-colour-of-requires (list-cell-calls t) (list-cell-at t) list-cell.Post
 list-cell-colour-of-requires t c κs = search needs
 
 list-cell-list-parts-requires : (t : ℕ) → list-cell-lts.Need-list-parts-requires (list-cell-calls t) (list-cell-at t) list-cell.Post
-list-cell-list-parts-requires t c κs =
-    let l = c .before in let m = l .before .before in let s = m .before .before .before .before in let h = carried t s in
-    (omega arith, (record { sheet = h .sheet; own = own t (m .before) (h .sheet) (h .near) }, s .pre .1 .1, l .if2 .taken))
+list-cell-list-parts-requires t c κs = let l = c .before in (omega arith, (some-own t (l .before .before .before .before .before .before .before), l .before .before .before .before .before .before .before .before .before .before .pre .1 .1, l .if2 .taken))
 
 list-cell-same-length : (t : ℕ) → list-cell-lts.Need-same-length (list-cell-calls t) (list-cell-at t) list-cell.Post
 list-cell-same-length t c = search needs
@@ -146,11 +161,11 @@ list-cell-same-length t c = search needs
 list-cell-returns : (t : ℕ) → list-cell-lts.Need-returns (list-cell-calls t) (list-cell-at t) list-cell.Post
 list-cell-returns t c S n =
     let u = c .before .before in let l = u .before .before in let m = l .before .before in
-    u .list-parts .ensures S (own t (m .before) S n) (sym (painted t m S n) ∙ l .before .if1 .taken)
+    u .list-parts .ensures S (own t (m .before .before .before .before .before) S n) (sym (painted t m S n) ∙ l .before .if1 .taken)
 
 list-cell-cell-record-requires : (t : ℕ) → list-cell-lts.Need-cell-record-requires (list-cell-calls t) (list-cell-at t) list-cell.Post
 list-cell-cell-record-requires t c κs =
-    let n = carried t (c .before .before .before .before .before) .near in let r = n .near .accepted .ranges in
+    let n = carried t (c .before .before .before .before .before .before .before .before .before) .near in let r = n .near .accepted .ranges in
     (omega (arith, n .near .cell .level, r .depth), column-small r (n .near .cell), row-small r (n .near .cell))
 
 -- the place has an entry for the record of the cell itself
@@ -158,10 +173,10 @@ list-cell-room : (t : ℕ) (s : Cell t) → s .args .at < length (s .args .place
 list-cell-room t s = room-one (s .args .k) (s .args .level) (s .args .at) (s .args .place .now) (s .pre .1 .1)
 
 list-cell-mul-place : (t : ℕ) → list-cell-lts.Need-mul-place (list-cell-calls t) (list-cell-at t) list-cell.Post
-list-cell-mul-place t c = omega (arith, list-cell-room t (c .before .before .before .before .before .before))
+list-cell-mul-place t c = omega (arith, list-cell-room t (c .before .before .before .before .before .before .before .before .before .before))
 
 list-cell-slice-write-place : (t : ℕ) → list-cell-lts.Need-slice-write-place (list-cell-calls t) (list-cell-at t) list-cell.Post
-list-cell-slice-write-place t c = list-cell-room t (c .before .before .before .before .before .before)
+list-cell-slice-write-place t c = list-cell-room t (c .before .before .before .before .before .before .before .before .before .before)
 
 list-cell-bend-of-requires : (t : ℕ) → list-cell-lts.Need-bend-of-requires (list-cell-calls t) (list-cell-at t) list-cell.Post
 list-cell-bend-of-requires t c κs = search needs
@@ -170,10 +185,10 @@ list-cell-one-cell-requires : (t : ℕ) → list-cell-lts.Need-one-cell-requires
 list-cell-one-cell-requires t c κs = search needs
 
 list-cell-add-end : (t : ℕ) → list-cell-lts.Need-add-end (list-cell-calls t) (list-cell-at t) list-cell.Post
-list-cell-add-end t c = omega (arith, list-cell-room t (c .before .before .before .before .before .before .before .before))
+list-cell-add-end t c = omega (arith, list-cell-room t (c .before .before .before .before .before .before .before .before .before .before .before .before))
 
 -- a cell that is not cut: it is cleared, or it is a finest one
-list-cell-settled : (t : ℕ) (c : list-cell-lts.Joined1 (list-cell-calls t) (list-cell-at t) list-cell.Post) → let a = c .before .before .before .before .before .args in
+list-cell-settled : (t : ℕ) (c : list-cell-lts.Joined1 (list-cell-calls t) (list-cell-at t) list-cell.Post) → let a = c .before .before .before .before .before .before .before .before .before .args in
     (S : Sheet) → NearForm S (a .t3) (a .across) (a .along) (a .k) (a .level) (a .p) (a .q) → Settled (verdict S (mode-of (a .mode))) (a .level) (a .k - a .level) (a .p) (a .q) (c .before .colour-of .result)
 list-cell-settled t c S n = settled _ _ _ _ _ _ (painted t (c .before) S n) (λ e. elim (c .if1 .came) [
   | inl d ↦ omega arith
@@ -294,7 +309,9 @@ pub +list-cell+list-parts-spec : {M : Type 1} → statement M
 +list-cell+list-parts-spec = close μ-list-cell μ-list-parts
     (λ t. list-cell-lts.spec (list-cell-calls t) (list-cell-at t) list-cell.Post
     (list-cell-cast-n t)
-    (list-cell-settle-requires t)
+    (list-cell-to-part-requires t)
+    (list-cell-range-on-requires t)
+    (list-cell-judge-requires t)
     (list-cell-colour-of-requires t)
     (list-cell-list-parts-requires t)
     (list-cell-same-length t)
