@@ -1,10 +1,12 @@
 /* The work of the calls raster and listing in plain C, for a timing beside the proved program.
 
-   It goes the same way: the weight with a ceiling, the scaled form once, and for each cell that is visited the local form about its centre
-   by Horner's rule in two turns, the range with its bend, the verdict, and then a cut, or the largest bend so far of the coloured cells and a block
-   of the raster or a record: one recursion for rasters, which stands here, and one for listings, which stands in bench/plain.h with the rest. It
-   reads and answers cases as crates/compare does, so that both can be fed one file and their answers compared byte for byte; it knows only calls 3
-   and 4. Nothing here is proved.
+   It goes the same way: the weight with a ceiling, the scaled form and that of the whole sheet once, and for each cell that is visited the range with
+   its bend, the verdict, and then a cut, with the forms of the four parts, or the largest bend so far of the coloured cells and a block of the raster
+   or a record: one recursion for rasters, which stands here, and one for listings, which stands in bench/plain.h with the rest. Forms are handed on by
+   pointers, and those of the four parts of a cell are worked out before the first part is examined (bench/plain_forms.h, which has other ways to choose
+   from, too). It reads and answers
+   cases as crates/compare does, so that both can be fed one file and their answers compared byte for byte; it knows only calls 3 and 4. Nothing here
+   is proved.
 
    The proved program is for x86-64: where that is run under an emulator, a fair time asks that this file be compiled for x86-64, too. */
 #include "plain.h"
@@ -23,16 +25,21 @@ static void paint_block(struct walk *walk, uint32_t level, uint32_t p, uint32_t 
     }
 }
 
+static void paint_cell(struct walk *walk, const struct range *range, uint32_t level, uint32_t p, uint32_t q) {
+    count_cell(walk, range);
+    paint_block(walk, level, p, q, (uint8_t)range->verdict);
+}
+
+#ifdef OLD_WAY
+
 static void cut(struct walk *walk, uint32_t level, uint32_t p, uint32_t q);
 
 static void examine(struct walk *walk, uint32_t level, uint32_t p, uint32_t q) {
     struct range range = range_at(walk, level, p, q);
-    if (range.verdict == COLOURED && level < walk->sheet->k) {
+    if (range.verdict == COLOURED && level < walk->sheet->k)
         cut(walk, level, p, q);
-        return;
-    }
-    count_cell(walk, &range);
-    paint_block(walk, level, p, q, (uint8_t)range.verdict);
+    else
+        paint_cell(walk, &range, level, p, q);
 }
 
 static void cut(struct walk *walk, uint32_t level, uint32_t p, uint32_t q) {
@@ -46,6 +53,34 @@ static void paint_sheet(struct walk *walk, uint8_t *raster) {
     walk->raster = raster;
     examine(walk, 0, 0, 0);
 }
+
+#else
+
+static void cut(struct walk *walk, const struct form *form, uint32_t level, uint32_t p, uint32_t q);
+
+static void examine(struct walk *walk, const struct form *form, uint32_t level, uint32_t p, uint32_t q) {
+    struct range range = range_at(walk, form);
+    if (range.verdict == COLOURED && level < walk->sheet->k)
+        cut(walk, form, level, p, q);
+    else
+        paint_cell(walk, &range, level, p, q);
+}
+
+static void cut(struct walk *walk, const struct form *form, uint32_t level, uint32_t p, uint32_t q) {
+    struct parts parts;
+    parts_of(form, &parts);
+    examine(walk, &parts.lower_left, level + 1, 2 * p, 2 * q);
+    examine(walk, &parts.lower_right, level + 1, 2 * p + 1, 2 * q);
+    examine(walk, &parts.upper_left, level + 1, 2 * p, 2 * q + 1);
+    examine(walk, &parts.upper_right, level + 1, 2 * p + 1, 2 * q + 1);
+}
+
+static void paint_sheet(struct walk *walk, uint8_t *raster) {
+    walk->raster = raster;
+    examine(walk, whole_form(walk), 0, 0, 0);
+}
+
+#endif
 
 /* ---- cases and answers */
 

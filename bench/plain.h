@@ -1,16 +1,12 @@
-/* What bench/plain.c and bench/plain_text.c have in common: a sheet, its weight and its refusals, the forms and the verdict of a cell, and the walk
-   of a listing. docs/BENCHMARKS.md says what they are for. Nothing here is proved. */
-#include "plain_bytes.h"
+/* What bench/plain.c and bench/plain_text.c have in common: a sheet, its weight and its refusals, and the walk of a listing. The forms and the verdict
+   of a cell stand in bench/plain_forms.h, which tells the ways apart. docs/BENCHMARKS.md says what they are for. Nothing here is proved. */
+#include "plain_forms.h"
 
 enum { COUNT = 64 };
 
 static const uint64_t CEILING = (uint64_t)1 << 62;
 
-/* ---- numbers */
-
-static uint64_t larger(uint64_t a, uint64_t b) { return a < b ? b : a; }
-
-static uint64_t size(int64_t z) { return z < 0 ? (uint64_t)-z : (uint64_t)z; }
+/* ---- numbers with a ceiling */
 
 static uint64_t capped_sum(uint64_t a, uint64_t b) { return CEILING - a < b ? CEILING : a + b; }
 
@@ -20,8 +16,6 @@ static uint64_t capped_product(uint64_t a, uint64_t b) {
 }
 
 static uint64_t capped_power(uint32_t n) { return n > 62 ? CEILING : (uint64_t)1 << n; }
-
-static int64_t power(uint32_t n) { return (int64_t)1 << n; }
 
 /* ---- a sheet and its weight */
 
@@ -68,11 +62,17 @@ static uint32_t refusal(const struct sheet *sheet, size_t entries) {
     return 0;
 }
 
-/* ---- forms */
+/* ---- the walk */
 
-struct form {
-    uint32_t degree;
-    int64_t places[45];
+struct walk {
+    const struct sheet *sheet;
+    struct form form;
+    int64_t across, along;
+    uint32_t visited, coloured;
+    uint64_t largest_bend;
+    uint8_t *raster;
+    uint32_t *records;
+    size_t length;
 };
 
 static struct form scaled_form(const struct sheet *sheet) {
@@ -87,69 +87,7 @@ static struct form scaled_form(const struct sheet *sheet) {
     return form;
 }
 
-/* The sum of c(j) (u + h t)^j by Horner's rule. */
-static void expand(const int64_t *c, uint32_t n, int64_t u, int64_t h, int64_t row[9]) {
-    memset(row, 0, 9 * sizeof *row);
-    for (uint32_t j = n + 1; j-- > 0;) {
-        for (uint32_t a = n - j; a > 0; a--) row[a] = row[a] * u + row[a - 1] * h;
-        row[0] = row[0] * u + c[j];
-    }
-}
-
-/* The second variable moved, and the two variables exchanged. */
-static void turn(const struct form *form, int64_t u, int64_t h, struct form *turned) {
-    uint32_t d = form->degree;
-    const int64_t *c = form->places;
-    turned->degree = d;
-    for (uint32_t i = 0; i <= d; i++) {
-        int64_t row[9];
-        expand(c, d - i, u, h, row);
-        size_t at = i;
-        for (uint32_t b = 0; b <= d - i; b++) {
-            turned->places[at] = row[b];
-            at += d + 1 - b;
-        }
-        c += d + 1 - i;
-    }
-}
-
-enum verdict { COLOURED = 1, ABOVE = 2, BELOW = 3 };
-
-struct range {
-    enum verdict verdict;
-    int64_t lower, upper;
-    uint64_t bend;
-};
-
-static struct range range_of(const struct form *form, uint32_t mode) {
-    uint64_t fall = 0, rise = 0, bend = 0;
-    const int64_t *g = form->places;
-    for (uint32_t a = 0; a <= form->degree; a++)
-        for (uint32_t b = 0; b <= form->degree - a; b++, g++) {
-            if (a + b == 0) continue;
-            uint64_t n = size(*g);
-            bool even = mode == 0 && a % 2 == 0 && b % 2 == 0;
-            if (!even || *g < 0) fall += n;
-            if (!even || *g > 0) rise += n;
-            if (a + b >= 2) bend += n;
-        }
-    int64_t lower = form->places[0] - (int64_t)fall, upper = form->places[0] + (int64_t)rise;
-    return (struct range){lower > 0 ? ABOVE : upper < 0 ? BELOW : COLOURED, lower, upper, bend};
-}
-
-/* ---- the walk */
-
-struct walk {
-    const struct sheet *sheet;
-    struct form form;
-    int64_t across, along;
-    uint32_t visited, coloured;
-    uint64_t largest_bend;
-    uint8_t *raster;
-    uint32_t *records;
-    size_t length;
-};
-
+/* The scaled form and the corner: where every walk begins. */
 static struct walk walk_of(const struct sheet *sheet) {
     int64_t unit = power(sheet->k + 1);
     return (struct walk){.sheet = sheet, .form = scaled_form(sheet), .across = unit * sheet->x, .along = unit * sheet->y};
@@ -157,8 +95,8 @@ static struct walk walk_of(const struct sheet *sheet) {
 
 static int64_t centre(int64_t corner, uint32_t p, int64_t h) { return corner + (2 * (int64_t)p + 1) * h; }
 
-/* The proved program works out the bounds and the bend of each cell that is visited. Here only the bends of coloured cells are looked at, and a
-   compiler may leave out the others; gcc -O2 sums all of them beside the bounds. */
+#ifdef OLD_WAY
+
 static struct range range_at(struct walk *walk, uint32_t level, uint32_t p, uint32_t q) {
     const struct sheet *sheet = walk->sheet;
     int64_t h = power(sheet->s + sheet->k - level);
@@ -169,6 +107,25 @@ static struct range range_at(struct walk *walk, uint32_t level, uint32_t p, uint
     return range_of(&there, sheet->mode);
 }
 
+#else
+
+/* Makes the scaled form that of the whole sheet about its centre: both variables are moved there, and a half side becomes their unit. */
+static const struct form *whole_form(struct walk *walk) {
+    struct form *form = &walk->form;
+    uint32_t e = walk->sheet->s + walk->sheet->k;
+    move_rows(form->places, form->degree, centre(walk->along, 0, power(e)));
+    move_columns(form->places, form->degree, centre(walk->across, 0, power(e)));
+    scale(form, e);
+    return form;
+}
+
+static struct range range_at(struct walk *walk, const struct form *form) {
+    walk->visited++;
+    return range_of(form, walk->sheet->mode);
+}
+
+#endif
+
 /* Counts a cell that is not cut, where it is coloured. */
 static void count_cell(struct walk *walk, const struct range *range) {
     if (range->verdict != COLOURED) return;
@@ -178,16 +135,22 @@ static void count_cell(struct walk *walk, const struct range *range) {
 
 /* ---- the listing */
 
+/* The record of a cell that is not cut. */
+static void enter_cell(struct walk *walk, const struct range *range, uint32_t level, uint32_t p, uint32_t q) {
+    count_cell(walk, range);
+    walk->records[walk->length++] = (uint32_t)range->verdict + 4 * p + 512 * q + 65536 * level;
+}
+
+#ifdef OLD_WAY
+
 static void list_parts(struct walk *walk, uint32_t level, uint32_t p, uint32_t q);
 
 static void list_cell(struct walk *walk, uint32_t level, uint32_t p, uint32_t q) {
     struct range range = range_at(walk, level, p, q);
-    if (range.verdict == COLOURED && level < walk->sheet->k) {
+    if (range.verdict == COLOURED && level < walk->sheet->k)
         list_parts(walk, level, p, q);
-        return;
-    }
-    count_cell(walk, &range);
-    walk->records[walk->length++] = (uint32_t)range.verdict + 4 * p + 512 * q + 65536 * level;
+    else
+        enter_cell(walk, &range, level, p, q);
 }
 
 static void list_parts(struct walk *walk, uint32_t level, uint32_t p, uint32_t q) {
@@ -201,3 +164,31 @@ static void list_sheet(struct walk *walk, uint32_t *records) {
     walk->records = records;
     list_cell(walk, 0, 0, 0);
 }
+
+#else
+
+static void list_parts(struct walk *walk, const struct form *form, uint32_t level, uint32_t p, uint32_t q);
+
+static void list_cell(struct walk *walk, const struct form *form, uint32_t level, uint32_t p, uint32_t q) {
+    struct range range = range_at(walk, form);
+    if (range.verdict == COLOURED && level < walk->sheet->k)
+        list_parts(walk, form, level, p, q);
+    else
+        enter_cell(walk, &range, level, p, q);
+}
+
+static void list_parts(struct walk *walk, const struct form *form, uint32_t level, uint32_t p, uint32_t q) {
+    struct parts parts;
+    parts_of(form, &parts);
+    list_cell(walk, &parts.lower_left, level + 1, 2 * p, 2 * q);
+    list_cell(walk, &parts.lower_right, level + 1, 2 * p + 1, 2 * q);
+    list_cell(walk, &parts.upper_left, level + 1, 2 * p, 2 * q + 1);
+    list_cell(walk, &parts.upper_right, level + 1, 2 * p + 1, 2 * q + 1);
+}
+
+static void list_sheet(struct walk *walk, uint32_t *records) {
+    walk->records = records;
+    list_cell(walk, whole_form(walk), 0, 0, 0);
+}
+
+#endif

@@ -28,8 +28,9 @@ use Rattle.local.specs.Range.{Light, range-of, judged-by}
 use Rattle.local.specs.declared.Form.{Form}
 use Rattle.cells.proofs.Forms.{settled-form, cell-light, verdict-by}
 use Rattle.cells.proofs.Parts.{Side, part-near}
-use Rattle.walk.specs.declared.Seen.{Seen}
-use Rattle.walk.specs.Steps.{one-seen, cut-seen, Few, Counted, OwnForm, NearForm, Held, Carried}
+use Rattle.marks.specs.declared.Seen.{Seen}
+use Rattle.marks.specs.Steps.{one-seen, cut-seen, Few}
+use Rattle.walk.specs.Steps.{Counted, OwnForm, NearForm, Held, Carried}
 
 -- a cell whose own colour is 1 is open
 pub open-by : (w : Verdict) → colour-of (w ∷ []) ≡ 1 → Opened w

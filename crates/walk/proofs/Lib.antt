@@ -1,6 +1,3 @@
-pub mod Picks
-pub mod Runs
-pub mod Blocks
 pub mod Cells
 pub mod Painting
 pub mod Recording

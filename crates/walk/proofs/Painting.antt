@@ -12,10 +12,11 @@ use Rattle.verdicts.specs.Walking.{Verdicts}
 use Rattle.verdicts.specs.Operational.{colour-from}
 use Rattle.verdicts.proofs.Cells.{Opened, levels-below, colour-open}
 use Rattle.verdicts.proofs.Parts.{quarter-test}
-use Rattle.walk.specs.declared.Seen.{Seen}
-use Rattle.walk.specs.Steps.{Painted, in-block, Block, one-seen, cut-seen, Examined}
-use Rattle.walk.proofs.Picks.{pick-four}
-use Rattle.walk.proofs.Blocks.{block-row, block-column}
+use Rattle.marks.specs.declared.Seen.{Seen}
+use Rattle.marks.specs.Steps.{Painted, in-block, Block, one-seen, cut-seen}
+use Rattle.walk.specs.Steps.{Examined}
+use Rattle.marks.proofs.Picks.{pick-four}
+use Rattle.marks.proofs.Blocks.{block-row, block-column}
 use Rattle.walk.proofs.Cells.{Settled, counted-one, counted-cut}
 
 -- what is painted of one colour is painted of another that is the same where it is painted

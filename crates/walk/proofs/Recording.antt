@@ -14,7 +14,8 @@ use Rattle.verdicts.specs.Operational.{records-from}
 use Rattle.verdicts.proofs.Cells.{Opened, levels-below, records-open}
 use Rattle.verdicts.proofs.Bounds.{records-bound}
 use Rattle.walk.specs.declared.Entered.{Entered}
-use Rattle.walk.specs.Steps.{one-seen, cut-seen, Recorded}
+use Rattle.marks.specs.Steps.{one-seen, cut-seen}
+use Rattle.walk.specs.Steps.{Recorded}
 use Rattle.walk.proofs.Cells.{Settled, counted-one, counted-cut}
 
 -- ---- what `list_cell` and `list_parts` promise

@@ -30,9 +30,10 @@ use Rattle.local.specs.declared.Form.{Form}
 use Rattle.local.specs.Form.{Tabled}
 use Rattle.cells.proofs.Making.{held-form}
 use Rattle.cells.proofs.Parts.{whole-near}
-use Rattle.walk.specs.declared.Seen.{Seen}
+use Rattle.marks.specs.declared.Seen.{Seen}
 use Rattle.walk.specs.declared.Entered.{Entered}
-use Rattle.walk.specs.Steps.{in-block, Counted, Examined, Recorded, NearForm, Carried}
+use Rattle.marks.specs.Steps.{in-block}
+use Rattle.walk.specs.Steps.{Counted, Examined, Recorded, NearForm, Carried}
 
 -- ---- what a walk that no row refuses may begin with
 module _ (S : Sheet) (mode n : ℕ) (e : refusal (to-walk S mode n) ≡ 0) where

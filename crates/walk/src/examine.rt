@@ -1,11 +1,11 @@
 // Walking a sheet for its raster: examining a cell and cutting it call on each other, and the levels left fall.
-use crate::Seen;
-use crate::cell::bend_of;
-use crate::cell::colour_of;
-use crate::cell::cut_cell;
-use crate::cell::one_cell;
-use crate::paint::paint_block;
 use local::Form;
+use marks::Seen;
+use marks::bend_of;
+use marks::colour_of;
+use marks::cut_cell;
+use marks::one_cell;
+use marks::paint_block;
 ghost use Prim.Native.Nat.{_^_, _≤_, _<_};
 ghost use lib.ListN.{length};
 ghost use Rattle.walk.specs.Steps.{Carried, EachExamined, Held, EachCut};

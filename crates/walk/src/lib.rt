@@ -1,12 +1,11 @@
 // The calls that walk a sheet: its raster and its listing, each with the tally.
-mod cell;
 mod examine;
 mod list;
 mod opening;
-mod paint;
 mod refusals;
 
 use local::Form;
+use marks::Seen;
 ghost use Rattle.page.specs.Sheet.{sheet-of};
 ghost use Rattle.walk.specs.Promises.{RasterPromise, ListingPromise};
 
@@ -35,13 +34,6 @@ pub enum Listed {
 struct Begun {
     pub refusal: u32,
     pub form: Form,
-}
-
-// What a walk has seen: cells visited, finest cells coloured, and the largest bend of these.
-struct Seen {
-    pub visited: u32,
-    pub coloured: u32,
-    pub bend: u64,
 }
 
 // Where the records written so far end, and what the walk has seen.

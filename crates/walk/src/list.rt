@@ -1,11 +1,11 @@
 // Walking a sheet for its listing: the same cycle, with a record in place of a block of bytes.
 use crate::Entered;
-use crate::cell::bend_of;
-use crate::cell::cell_record;
-use crate::cell::colour_of;
-use crate::cell::cut_cell;
-use crate::cell::one_cell;
 use local::Form;
+use marks::bend_of;
+use marks::cell_record;
+use marks::colour_of;
+use marks::cut_cell;
+use marks::one_cell;
 ghost use Prim.Native.Nat.{_-_, _+_, _^_, _≤_, _<_};
 ghost use lib.ListN.{length};
 ghost use Rattle.walk.specs.Steps.{Carried, EachRecorded, Held, EachListed};

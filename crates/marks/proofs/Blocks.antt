@@ -12,9 +12,9 @@ use lib.Dec.{ltb, eqb}
 use borrow.Author.Tests.{ltb-true, eqb-true, lt-ltb, le-ltb, eq-eqb, ne-eqb}
 use native.Mathlib.Decide.{decLt, ℕ-discrete}
 use Rattle.algebra.proofs.Choice.{same-test, and-left, and-right, and-both}
-use Rattle.walk.specs.Steps.{Painted, in-run, Run, in-block, Block}
-use Rattle.walk.proofs.Picks.{pick-more}
-use Rattle.walk.proofs.Runs.{run-from, run-to, run-has}
+use Rattle.marks.specs.Steps.{Painted, in-run, Run, in-block, Block}
+use Rattle.marks.proofs.Picks.{pick-more}
+use Rattle.marks.proofs.Runs.{run-from, run-to, run-has}
 
 -- the columns of a cell end within the grid
 pub columns-end : (k level p : ℕ) → level ≤ k → p < 2 ^ level → p * 2 ^ (k - level) + 2 ^ (k - level) ≤ 2 ^ k

@@ -1,9 +1,9 @@
--- `walk::cell::cut_cell` meets its contract: the sums fit, and they and the largest bend are those of the definition.
+-- `marks::cell::cut_cell` meets its contract: the sums fit, and they and the largest bend are those of the definition.
 use mathlib.Core.Path.{_≡_, refl, _∙_, ap₂}
 use Prim.Native.Nat.{max}
 use borrow.Author.Needs.{needs}
-use Rattle.walk.proofs.cell.cut_cell.Statement.{statement}
-use Rattle.walk.proofs.cell.cut_cell.Tie as tie
+use Rattle.marks.proofs.cell.cut_cell.Statement.{statement}
+use Rattle.marks.proofs.cell.cut_cell.Tie as tie
 
 larger-requires : tie.Need-larger-requires
 larger-requires c κs = search needs

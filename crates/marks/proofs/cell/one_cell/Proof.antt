@@ -1,8 +1,8 @@
--- `walk::cell::one_cell` meets its contract.
+-- `marks::cell::one_cell` meets its contract.
 use mathlib.Core.Path.{refl}
 use borrow.Author.Tests.{eq-eqb, ne-eqb}
-use Rattle.walk.proofs.cell.one_cell.Statement.{statement}
-use Rattle.walk.proofs.cell.one_cell.Tie as tie
+use Rattle.marks.proofs.cell.one_cell.Statement.{statement}
+use Rattle.marks.proofs.cell.one_cell.Tie as tie
 
 returns : tie.Need-returns
 returns c = rw (eq-eqb _ 1 (c .if1 .taken)) refl

@@ -1,8 +1,8 @@
--- `walk::cell::cell_record` meets its contract: each product and sum fits, and the last is the record.
+-- `marks::cell::cell_record` meets its contract: each product and sum fits, and the last is the record.
 use native.Mathlib.Omega.{arith}
 use borrow.Author.Needs.{needs}
-use Rattle.walk.proofs.cell.cell_record.Statement.{statement}
-use Rattle.walk.proofs.cell.cell_record.Tie as tie
+use Rattle.marks.proofs.cell.cell_record.Statement.{statement}
+use Rattle.marks.proofs.cell.cell_record.Tie as tie
 
 mul-result : tie.Need-mul-result
 mul-result c = search needs

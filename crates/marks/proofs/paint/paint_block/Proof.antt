@@ -1,4 +1,4 @@
--- `walk::paint::paint_block` meets its contract.
+-- `marks::paint::paint_block` meets its contract.
 use borrow.Author.Needs.{needs}
 use mathlib.Core.Path.{_≡_}
 use Prim.Native.Nat.{ℕ, _+_, _*_, _-_, _^_, _≤_}
@@ -6,9 +6,9 @@ use native.Mathlib.Omega.{arith}
 use lib.ListN.{length}
 use lib.Pow.{pow-mono}
 use Rattle.algebra.proofs.Power.{*-pow}
-use Rattle.walk.proofs.Blocks.{columns-end, rows-end, Filling, filling-start, filling-next, filling-end}
-use Rattle.walk.proofs.paint.paint_block.Statement.{statement}
-use Rattle.walk.proofs.paint.paint_block.Tie as tie
+use Rattle.marks.proofs.Blocks.{columns-end, rows-end, Filling, filling-start, filling-next, filling-end}
+use Rattle.marks.proofs.paint.paint_block.Statement.{statement}
+use Rattle.marks.proofs.paint.paint_block.Tie as tie
 
 abbrev Inv-loop : tie.InvT-loop
 Inv-loop place₀ k level p q colour stride count x y row₀ place row = Filling k (k - level) p q colour place₀ place row

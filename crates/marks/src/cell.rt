@@ -6,7 +6,7 @@ ghost use mathlib.Core.List.{[], _∷_};
 ghost use Prim.Native.Nat.{_≤_, _<_};
 ghost use Rattle.verdicts.specs.Judging.{carried-bend};
 ghost use Rattle.verdicts.specs.Walking.{colour-of, record-of};
-ghost use Rattle.walk.specs.Steps.{one-seen, cut-seen, Few};
+ghost use Rattle.marks.specs.Steps.{one-seen, cut-seen, Few};
 
 // 2 for a cell above, 3 for one below, 1 for an open one
 pub fn colour_of(verdict: Verdict) -> u8

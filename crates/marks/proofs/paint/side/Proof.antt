@@ -1,12 +1,12 @@
--- `walk::paint::side` meets its contract.
+-- `marks::paint::side` meets its contract.
 use borrow.Author.Needs.{needs}
 use mathlib.Core.Path.{_∙_}
 use native.Mathlib.Nat.{one-mul}
 use native.Mathlib.Omega.{arith}
 use lib.Pow.{shl-exact}
 use lib.Dec.{lit<}
-use Rattle.walk.proofs.paint.side.Statement.{statement}
-use Rattle.walk.proofs.paint.side.Tie as tie
+use Rattle.marks.proofs.paint.side.Statement.{statement}
+use Rattle.marks.proofs.paint.side.Tie as tie
 
 shl-result : tie.Need-shl-result
 shl-result c = search needs

@@ -1,9 +1,9 @@
--- `walk::paint::paint_run` meets its contract.
+-- `marks::paint::paint_run` meets its contract.
 use Prim.Native.Nat.{_-_}
 use native.Mathlib.Omega.{arith}
-use Rattle.walk.proofs.Runs.{Running, running-start, running-next, running-end}
-use Rattle.walk.proofs.paint.paint_run.Statement.{statement}
-use Rattle.walk.proofs.paint.paint_run.Tie as tie
+use Rattle.marks.proofs.Runs.{Running, running-start, running-next, running-end}
+use Rattle.marks.proofs.paint.paint_run.Statement.{statement}
+use Rattle.marks.proofs.paint.paint_run.Tie as tie
 
 abbrev Inv-loop : tie.InvT-loop
 Inv-loop place₀ at count colour i₀ place i = Running at count colour place₀ place i

@@ -10,7 +10,7 @@ use lib.Seq.{getD-set-same, getD-set-other}
 use lib.Dec.{leb, ltb}
 use borrow.Author.Tests.{leb-true, ltb-true, le-leb, lt-ltb}
 use Rattle.algebra.proofs.Choice.{same-test, and-left, and-right, and-both}
-use Rattle.walk.specs.Steps.{in-run, Run}
+use Rattle.marks.specs.Steps.{in-run, Run}
 
 pub run-from : (at n i : ℕ) → in-run at n i ≡ true → at ≤ i
 run-from at n i e = leb-true at i (and-left (leb at i) (ltb i (at + n)) e)

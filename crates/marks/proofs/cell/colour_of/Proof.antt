@@ -1,10 +1,10 @@
--- `walk::cell::colour_of` meets its contract: the verdict is the arm's variant, at which the colour computes.
+-- `marks::cell::colour_of` meets its contract: the verdict is the arm's variant, at which the colour computes.
 use mathlib.Core.Path.{sym, ap}
 use mathlib.Core.List.{[], _∷_}
 use borrow.Author.Needs.{needs}
 use Rattle.verdicts.specs.Walking.{colour-of}
-use Rattle.walk.proofs.cell.colour_of.Statement.{statement}
-use Rattle.walk.proofs.cell.colour_of.Tie as tie
+use Rattle.marks.proofs.cell.colour_of.Statement.{statement}
+use Rattle.marks.proofs.cell.colour_of.Tie as tie
 
 enum-told : tie.Need-enum-told
 enum-told c = search needs

@@ -3,7 +3,7 @@ ghost use mathlib.Core.Path.{_≡_};
 ghost use Prim.Native.Nat.{_+_, _-_, _^_, _≤_, _<_};
 ghost use lib.ListN.{length};
 ghost use Rattle.page.specs.Scaled.{IsCell};
-ghost use Rattle.walk.specs.Steps.{Run, Block};
+ghost use Rattle.marks.specs.Steps.{Run, Block};
 
 // 2^n
 fn side(n: u32) -> usize

@@ -1,0 +1,3 @@
+pub mod Picks
+pub mod Runs
+pub mod Blocks
