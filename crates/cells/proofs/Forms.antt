@@ -1,8 +1,7 @@
 -- What places hold gives the page's verdict: sums over a table that is the local form of a cell are the page's, and they are light.
 use mathlib.Core.Path.{_≡_, sym, _∙_, ap, ap₂}
 use mathlib.Core.List.{List, [], _∷_, List·Memᴰ}
-use Prim.Native.Nat.{ℕ, _+_, _*_, _-_, _^_, _≤_, _<_}
-use native.Mathlib.Nat as Nat
+use Prim.Native.Nat.{ℕ, _+_, _-_, _^_, _≤_, _<_}
 use native.Mathlib.Omega.{arith}
 use lib.IntN.{ℤ, natAbs}
 use Rattle.algebra.specs.Sum.{sumℕ, _⋯_}
@@ -22,7 +21,7 @@ use Rattle.page.specs.Sheet.{Sheet}
 use Rattle.page.specs.Scaled.{IsCell, half-side}
 use Rattle.page.specs.LocalForm.{G}
 use Rattle.page.specs.Bounds.{lower, upper, bend, verdict}
-use Rattle.page.specs.Weight.{Accepted, weight}
+use Rattle.page.specs.Weight.{Accepted}
 use Rattle.page.proofs.Page.{polynomial, centre, G-is}
 use Rattle.page.proofs.Weights.{limits, weight-is}
 use Rattle.page.proofs.Demand3.{limited}
@@ -62,4 +61,4 @@ module _ (S : Sheet) (j p q : ℕ) where
 
 -- ---- a table that is near, moved
 pub settled-form : {S : Sheet} {j p q : ℕ} {across along : ℤ} {old new : List ℤ} → Near S j p q across along old → Moved (S .d) across along old new → CellForm S j p q new
-settled-form n m = record { accepted = n .accepted; cell = n .cell; long = m .long ∙ n .long; each = λ a b l. m .each a b l ∙ n .each a b l }
+settled-form n m = record { accepted = n .accepted; cell = n .cell; long = m .long ∙ n .long; each = λ a b l. m .each a b l ∙ n .each a b l; unused = λ k l. m .rest k l ∙ n .unused k l }

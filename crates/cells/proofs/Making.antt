@@ -6,7 +6,6 @@ use native.Mathlib.Nat as Nat
 use native.Mathlib.Omega.{arith}
 use lib.IntN.{ℤ, pos, _*ℤ_, natAbs, pow}
 use lib.Pow.{pow-pos}
-use lib.ListN.{length}
 use Rattle.algebra.specs.Sum.{_⋯_}
 use Rattle.algebra.specs.Triangle.{triangle}
 use Rattle.algebra.proofs.Sum.{sum-cong}
@@ -87,8 +86,8 @@ module _ {S : Sheet} (a : Accepted S) {form : Form} (f : Tabled (S .d) (scaled S
       }
 
       pub placed : {new : Form} → new .degree ≡ S .d → Places.Scaled (S .d) (S .s + S .k - j) 0 there (new .places) → Tabled (S .d) (G S j p q) new
-      placed e t = record { degree = e; long = t .long; each = λ a b l. t .each a b l ∙ place-is a b l }
+      placed e t = record { degree = e; long = t .long; each = λ a b l. t .each a b l ∙ place-is a b l; unused = λ n l. t .rest n l ∙ w .rest n l ∙ f .unused n l }
 
 -- a form that holds a cell's local form
 pub held-form : {S : Sheet} {j p q : ℕ} {form : Form} → Accepted S → IsCell (S .k) j p q → Tabled (S .d) (G S j p q) form → CellForm S j p q (form .places)
-held-form a c t = record { accepted = a; cell = c; long = t .long; each = t .each }
+held-form a c t = record { accepted = a; cell = c; long = t .long; each = t .each; unused = t .unused }

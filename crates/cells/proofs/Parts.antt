@@ -1,16 +1,12 @@
 -- From a cell to its parts: its local form halved has only to be moved by 1 or -1 in each variable to be that of a part. And the whole sheet, which is not moved.
-use mathlib.Core.Path.{_≡_, refl, sym, _∙_, ap, ap₂, subst}
+use mathlib.Core.Path.{_≡_, refl, sym, _∙_, ap, ap₂}
 use mathlib.Core.List.{List, [], _∷_}
-use mathlib.Core.Logic.{_⊎_, inl, inr}
-use Prim.Native.Nat.{ℕ, zero, suc, _+_, _*_, _-_, _/_, _^_, _≤_, _<_}
+use Prim.Native.Nat.{ℕ, suc, _+_, _*_, _-_, _^_, _≤_, _<_}
 use native.Mathlib.Nat as Nat
 use native.Mathlib.Omega.{arith}
 use lib.IntN.{ℤ, pos, negsuc, _+ℤ_, _*ℤ_, negℤ, natAbs, pow}
-use lib.ListN.{length}
 use lib.Pow.{pow-add, pow-pos}
 use lib.Signed.{shrZ}
-use Rattle.algebra.specs.Sum.{_⋯_}
-use Rattle.algebra.specs.Triangle.{triangle}
 use Rattle.algebra.proofs.Power.{pos-pow, one-powℕ}
 use Rattle.algebra.proofs.Integer.{≡-by}
 use Rattle.algebra.proofs.Absolute.{natAbs-*ℤ, natAbs-pow}
@@ -100,6 +96,7 @@ module _ (S : Sheet) (j p q : ℕ) (above : j < S .k) where
         light = rw (triangle-agree (S .d) (λ a b. natAbs (held new (S .d) a b) * (2 ^ a * 2 ^ b)) (λ a b. natAbs (G S j p q a b)) doubled) (let w = sizes-light S j p q (f .accepted) (f .cell) in omega arith);
       };
       each = λ a b l. moved-agree (S .d) (held new (S .d)) inner s z (pos 1) halved a b ∙ part-form a b l;
+      unused = λ n l. h .rest n l ∙ f .unused n l;
     }
       where
         halved : (a b : ℕ) → a + b ≤ S .d → held new (S .d) a b ≡ inner a b
@@ -124,6 +121,7 @@ whole-near {S} {places} f = record {
     light = rw (triangle-agree (S .d) (λ a b. natAbs (held places (S .d) a b) * (1 ^ a * 1 ^ b)) (λ a b. natAbs (G S 0 0 0 a b)) once) (let w = sizes-light S 0 0 0 (f .accepted) (f .cell) in omega arith);
   };
   each = λ a b l. moved-still (S .d) (held places (S .d)) a b l ∙ f .each a b l;
+  unused = f .unused;
 }
   where
     once : (a b : ℕ) → a + b ≤ S .d → natAbs (held places (S .d) a b) * (1 ^ a * 1 ^ b) ≡ natAbs (G S 0 0 0 a b)

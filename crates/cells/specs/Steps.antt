@@ -8,10 +8,11 @@ use Rattle.algebra.specs.Triangle.{place}
 use Rattle.tables.specs.Table.{at}
 use Rattle.page.specs.Sheet.{count}
 
--- ---- `wide_places`: the coefficients from the first place on
+-- ---- `wide_places`: the coefficients from the first place on, and then zeros
 pub record Widened (coefficients places : List ℤ) : Type 0 where
   pub long : length places ≡ 45
   pub each : (n : ℕ) → n < length coefficients → at places n ≡ at coefficients n
+  pub rest : (n : ℕ) → length coefficients ≤ n → at places n ≡ pos 0
 
 -- ---- `scaled_form`: A(i,j) · 2^((k+1)(d-i-j)), of d, the coefficients and k alone
 abbrev pub scaled-by : ℕ → List ℤ → ℕ → ℕ → ℕ → ℤ

@@ -1,6 +1,5 @@
 // The scaled coefficients of a sheet, as a form.
 use local::Form;
-ghost use mathlib.Core.Path.{_≡_};
 ghost use Prim.Native.Nat.{_≤_};
 ghost use lib.ListN.{length};
 ghost use Rattle.local.specs.Form.{Tabled};

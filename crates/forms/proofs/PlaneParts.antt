@@ -1,20 +1,18 @@
 -- The form of a part in the plane: the halved form of the whole, moved by 1 or -1 in each variable.
-use mathlib.Core.Path.{_≡_, refl, sym, _∙_, ap, fun-ext}
+use mathlib.Core.Path.{_≡_, refl, _∙_, fun-ext}
 use mathlib.Core.List.{[], _∷_}
-use Prim.Native.Nat.{ℕ, zero, suc, _+_, _*_, _-_, _^_, _≤_, _<_}
+use Prim.Native.Nat.{ℕ, zero, suc, _+_, _-_, _≤_, _<_}
 use native.Mathlib.Nat as Nat
-use native.Mathlib.Omega.{arith}
-use lib.IntN.{ℤ, pos, _+ℤ_, _*ℤ_, natAbs, pow, zero-*ℤ, *ℤ-zero}
+use lib.IntN.{ℤ, pos, _+ℤ_, _*ℤ_, pow, zero-*ℤ, *ℤ-zero}
 use Rattle.algebra.proofs.Integer.{*ℤ-idr}
-use Rattle.algebra.specs.Sum.{sum, sumℕ, _⋯_}
+use Rattle.algebra.specs.Sum.{sum, _⋯_}
 use Rattle.algebra.specs.Binomial.{choose}
-use Rattle.algebra.specs.Triangle.{triangle}
 use Rattle.algebra.proofs.Power.{one-pow}
 use Rattle.algebra.proofs.Ring.{ring, _⊗_, #_, _≐_}
 use Rattle.algebra.proofs.Sum.{sum-cong, sum-zero}
 use Rattle.algebra.proofs.Run.{sum-⋯-from}
 use Rattle.algebra.proofs.Binomial.{choose-over}
-use Rattle.forms.specs.Vectors.{total, chooses, _∸_}
+use Rattle.forms.specs.Vectors.{chooses, _∸_}
 use Rattle.forms.specs.Points.{Point, powers}
 use Rattle.forms.specs.Box.{corner}
 use Rattle.forms.specs.LocalForm.{local}

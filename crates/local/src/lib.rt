@@ -7,7 +7,7 @@ mod sizes;
 pub use judging::judge;
 pub use measure::range_on;
 
-// The degree and 45 places.
+// The degree and 45 places, of which those not used are zero.
 pub struct Form {
     pub degree: u32,
     pub places: [i64; 45],

@@ -2,21 +2,20 @@
 use mathlib.Core.Path.{_≡_, refl, sym, _∙_, ap}
 use mathlib.Core.Bool.{true, false, true≢false}
 use mathlib.Core.List.{List, [], _∷_}
-use Prim.Native.Nat.{ℕ, suc, _+_, _*_, _-_, _^_, _≤_, _<_}
+use Prim.Native.Nat.{ℕ, suc, _+_, _*_, _-_, _^_, _≤_}
 use native.Mathlib.Nat as Nat
 use native.Mathlib.Omega.{arith}
 use borrow.Author.Tests.{ltb-true, ltb-false}
 use lib.Signed.{ltZ}
 use lib.IntN.{ℤ, pos, negsuc, _+ℤ_, _*ℤ_, natAbs}
-use lib.ListN.{length}
 use Rattle.algebra.specs.Sum.{sum, sumℕ, _⋯_}
 use Rattle.algebra.specs.Binomial.{entry}
-use Rattle.algebra.specs.Triangle.{row-start, place, triangle}
+use Rattle.algebra.specs.Triangle.{row-start, place}
 use Rattle.algebra.proofs.Sum.{sumℕ-cong, sumℕ-mono}
 use Rattle.algebra.proofs.Run.{⋯-member}
 use Rattle.algebra.proofs.Ring.{ring, _⊕_, _⊗_, #_, _≐_}
 use Rattle.algebra.proofs.Horner.{shifted-all, shifted-zero, shifted-none}
-use Rattle.forms.specs.Plane.{along, across, moved}
+use Rattle.forms.specs.Plane.{along, across}
 use Rattle.forms.proofs.Moves.{moved-both, along-load, across-load, along-agree, across-agree, along-still, across-still}
 use Rattle.tables.specs.Table.{at, held-from, held}
 use Rattle.tables.specs.Moves.{RowsMovable, RowsMoved, ColumnsMovable, ColumnsMoved, Movable, Moved}
@@ -60,6 +59,7 @@ module _ {d : ℕ} {u v : ℤ} {old : List ℤ} (m : Movable d u v old) where
     moved-then {new} c = record {
       long = c .long ∙ r .long;
       each = λ a b l. sym (from-first new d a b) ∙ c .each a b l ∙ across-agree d (held-from mid 0 d) (along d (held old d) v) u (λ i j k. from-first mid d i j ∙ here i j k) a b (omega arith) ∙ moved-both d (held old d) u v a b;
+      rest = λ n l. let h : 0 + row-start d (suc d) ≤ n = omega arith in c .after n h ∙ r .after n h;
     }
 
 -- ---- what is moved by 0 stays

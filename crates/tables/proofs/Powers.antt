@@ -1,13 +1,13 @@
 -- A table from the first place on, scaled and halved row by row: each row fits, and is set.
 use mathlib.Core.Path.{_≡_, sym, _∙_, ap}
 use mathlib.Core.List.{List}
-use Prim.Native.Nat.{ℕ, _+_, _-_, _^_, _≤_, _<_}
+use Prim.Native.Nat.{ℕ, suc, _+_, _-_, _^_, _≤_, _<_}
 use native.Mathlib.Nat as Nat
 use native.Mathlib.Omega.{arith}
 use lib.IntN.{ℤ, pos, _*ℤ_}
 use lib.ListN.{length}
 use lib.Signed.{shrZ}
-use Rattle.algebra.specs.Triangle.{place}
+use Rattle.algebra.specs.Triangle.{row-start, place}
 use Rattle.algebra.proofs.Places.{places-45}
 use Rattle.tables.specs.Table.{at, held}
 use Rattle.tables.specs.Scaling.{doublings, RowScalable, RowScaled, Scalable, Scaled, RowHalvable, RowHalved, Halvable, Halved}
@@ -31,6 +31,9 @@ module _ {d : ℕ} {R : ℕ → ℕ → ℤ} {old places : List ℤ} {first i : 
   all-set : d < i → (a b : ℕ) → a + b ≤ d → held places d a b ≡ R a b
   all-set h a b l = sym (ap (at places) (Nat.zero-add (place d a b))) ∙ setting-end h p .0 a b l
 
+  all-kept : d < i → (n : ℕ) → row-start d (suc d) ≤ n → at places n ≡ at old n
+  all-kept h n l = setting-end h p .2 n (omega arith)
+
 -- ---- scaled
 module _ {d e f : ℕ} {old places : List ℤ} {first i : ℕ} (s : Scalable d e f old) (p : Setting 0 d (scaled d e f old) old places first i) where
   pub scaled-row-fits : i ≤ d → RowScalable first i (d - i) e f places
@@ -49,7 +52,7 @@ module _ {d e f : ℕ} {old places : List ℤ} {first i : ℕ} (s : Scalable d e
   }
 
   pub scaled-end : d < i → Scaled d e f old places
-  scaled-end h = record { long = p .long ∙ s .long; each = all-set p h }
+  scaled-end h = record { long = p .long ∙ s .long; each = all-set p h; rest = all-kept p h }
 
 -- ---- halved
 module _ {d : ℕ} {old places : List ℤ} {first i : ℕ} (s : Halvable d old) (p : Setting 0 d (halved d old) old places first i) where
@@ -65,4 +68,4 @@ module _ {d : ℕ} {old places : List ℤ} {first i : ℕ} (s : Halvable d old) 
   }
 
   pub halved-end : d < i → Halved d old places
-  halved-end h = record { long = p .long ∙ s .long; each = all-set p h }
+  halved-end h = record { long = p .long ∙ s .long; each = all-set p h; rest = all-kept p h }

@@ -5,7 +5,7 @@ use Prim.Native.Nat.{ℕ, suc, _+_, _*_, _-_, _^_, _≤_, _<_}
 use lib.IntN.{ℤ, pos, _+ℤ_, _*ℤ_, natAbs}
 use lib.ListN.{length}
 use Rattle.algebra.specs.Sum.{sumℕ, _⋯_}
-use Rattle.algebra.specs.Triangle.{row-start, place, triangle}
+use Rattle.algebra.specs.Triangle.{row-start, triangle}
 use Rattle.algebra.specs.Horner.{shifted, load}
 use Rattle.forms.specs.Plane.{along, across, moved}
 use Rattle.tables.specs.Table.{at, row-of, held-from, held}
@@ -78,3 +78,4 @@ pub record Movable (d : ℕ) (u v : ℤ) (places : List ℤ) : Type 0 where
 pub record Moved (d : ℕ) (u v : ℤ) (old new : List ℤ) : Type 0 where
   pub long : length new ≡ length old
   pub each : (a b : ℕ) → a + b ≤ d → held new d a b ≡ moved d (held old d) u v (pos 1) a b
+  pub rest : (n : ℕ) → row-start d (suc d) ≤ n → at new n ≡ at old n

@@ -1,10 +1,11 @@
 -- Tables scaled and halved: what the contracts of `scale` and `halve` say.
 use mathlib.Core.Path.{_≡_}
 use mathlib.Core.List.{List}
-use Prim.Native.Nat.{ℕ, _+_, _*_, _-_, _^_, _≤_, _<_}
+use Prim.Native.Nat.{ℕ, suc, _+_, _*_, _-_, _^_, _≤_, _<_}
 use lib.IntN.{ℤ, pos, _*ℤ_, natAbs}
 use lib.ListN.{length}
 use lib.Signed.{shrZ}
+use Rattle.algebra.specs.Triangle.{row-start}
 use Rattle.tables.specs.Table.{at, row-of, held}
 
 -- ---- `scale_row`, before which the exponents come to a, and `scale`: how often each place is doubled
@@ -30,6 +31,7 @@ pub record Scalable (d e f : ℕ) (places : List ℤ) : Type 0 where
 pub record Scaled (d e f : ℕ) (old new : List ℤ) : Type 0 where
   pub long : length new ≡ 45
   pub each : (a b : ℕ) → a + b ≤ d → held new d a b ≡ held old d a b *ℤ pos (2 ^ doublings e f (a + b) (d - a - b))
+  pub rest : (n : ℕ) → row-start d (suc d) ≤ n → at new n ≡ at old n
 
 -- ---- `halve_row` and `halve`
 pub record RowHalvable (first a n : ℕ) (places : List ℤ) : Type 0 where
@@ -49,3 +51,4 @@ pub record Halvable (d : ℕ) (places : List ℤ) : Type 0 where
 pub record Halved (d : ℕ) (old new : List ℤ) : Type 0 where
   pub long : length new ≡ 45
   pub each : (a b : ℕ) → a + b ≤ d → held new d a b ≡ shrZ (held old d a b) (2 ^ (a + b))
+  pub rest : (n : ℕ) → row-start d (suc d) ≤ n → at new n ≡ at old n

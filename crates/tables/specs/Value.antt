@@ -1,6 +1,6 @@
 -- The value of a table at a point: what the contracts of `row_value` and `value_at` say.
 use mathlib.Core.List.{List}
-use Prim.Native.Nat.{ℕ, suc, _+_, _*_, _-_, _^_, _≤_, _<_}
+use Prim.Native.Nat.{ℕ, _+_, _*_, _-_, _^_, _≤_, _<_}
 use lib.IntN.{ℤ, _*ℤ_, natAbs, pow}
 use Rattle.algebra.specs.Sum.{sum, sumℕ, _⋯_}
 use Rattle.algebra.specs.Triangle.{triangle}

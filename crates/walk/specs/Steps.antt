@@ -1,11 +1,8 @@
 -- What the contracts of the walk's own functions say. None of it is the page's.
 use mathlib.Core.Path.{_≡_}
-use mathlib.Core.Bool.{Bool, cond, _&&_}
 use mathlib.Core.List.{List, [], _∷_}
-use Prim.Native.Nat.{ℕ, max, _+_, _-_, _/_, _%_, _^_, _≤_, _<_}
-use lib.Dec.{leb, ltb, eqb}
+use Prim.Native.Nat.{ℕ, _-_, _/_, _%_, _^_}
 use lib.IntN.{ℤ}
-use lib.ListN.{length, getD}
 use Rattle.algebra.specs.Written.{Written}
 use Rattle.forms.specs.Bounds.{mode-of}
 use Rattle.verdicts.specs.Walking.{Verdicts, colour-of}

@@ -1,6 +1,6 @@
 -- `cells::scale::wide_places` meets its contract: place by place, each from its own coefficient.
-use mathlib.Core.Path.{_≡_, refl, _∙_}
-use Prim.Native.Nat.{_-_, _<_}
+use mathlib.Core.Path.{_≡_, _∙_}
+use Prim.Native.Nat.{_-_, _≤_}
 use native.Mathlib.Omega.{arith}
 use borrow.Author.Needs.{needs}
 use lib.ListN.{length}
@@ -14,7 +14,7 @@ use Rattle.cells.proofs.scale.wide_places.Statement.{statement}
 use Rattle.cells.proofs.scale.wide_places.Tie as tie
 
 abbrev Inv-loop : tie.InvT-loop
-Inv-loop coefficients places₀ at₀ places at = Widening coefficients places at
+Inv-loop coefficients places₀ at₀ places at = (at ≤ length coefficients) × Widening coefficients places at
 
 abbrev μ-loop : tie.MeasureT-loop
 μ-loop coefficients places₀ at₀ places at = length coefficients - at
@@ -24,7 +24,7 @@ wide-is : (c : tie.After-wide Inv-loop μ-loop) → let b = c .before .before .b
 wide-is c = read64 (c .wide .result) (c .wide .ok) ∙ c .wide .ensures .0 ∙ toZ-ofZ (record { sfits = c .before .a .given })
 
 loop-holds : tie.Need-loop-holds Inv-loop μ-loop
-loop-holds c = widening-start refl
+loop-holds c = (omega arith, widening-start)
 
 mul-a : tie.Need-mul-a Inv-loop μ-loop
 mul-a c = omega arith
@@ -48,10 +48,10 @@ loop-less : tie.Need-loop-less Inv-loop μ-loop
 loop-less c = omega arith
 
 loop-again : tie.Need-loop-again Inv-loop μ-loop
-loop-again c = widening-next (omega arith) (wide-is c) (c .before .before .before .loop .inv)
+loop-again c = (omega arith, widening-next (omega arith) (wide-is c) (c .before .before .before .loop .inv .1))
 
 returns : tie.Need-returns Inv-loop μ-loop
-returns c = widening-end (omega arith) (c .before .loop .inv)
+returns c = widening-end (omega arith) (c .before .loop .inv .1)
 
 pub wide-places-spec : {M : Type 1} → statement M
 wide-places-spec =

@@ -1,9 +1,7 @@
 -- `tables::parts::rows_by` meets its contract: what is not below 0 and not above is 0, and moved by that a table stays.
-use mathlib.Core.Path.{_≡_, subst}
-use native.Mathlib.Omega.{arith}
+use mathlib.Core.Path.{_≡_}
 use lib.IntN.{pos, negsuc}
 use mir.Facts.{toZ-ofZ}
-use Rattle.tables.specs.Moves.{RowsMovable}
 use Rattle.tables.proofs.Both.{rows-still, minus-one, plus-one, no-side}
 use Rattle.tables.proofs.parts.rows_by.Statement.{statement}
 use Rattle.tables.proofs.parts.rows_by.Tie as tie

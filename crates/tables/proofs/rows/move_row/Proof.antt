@@ -1,5 +1,4 @@
 -- `rows::move_row` meets its contract: Horner's rule, from the last coefficient of the row down to the first.
-use Prim.Native.Nat.{_-_}
 use native.Mathlib.Omega.{arith}
 use borrow.Author.Needs.{needs}
 use mir.Syntax.{w64}

@@ -19,7 +19,7 @@ use Rattle.local.specs.Range.{judged-by}
 use Rattle.page.proofs.Cells.{column-small, row-small}
 use Rattle.cells.proofs.Parts.{Side, left, right}
 use Rattle.walk.specs.Steps.{NearForm, OwnForm, Held, Carried}
-use Rattle.walk.proofs.Cells.{open-by, Settled, settled, few, depth-small, own-cell, column-fits, row-fits, may-move, moved-own, own-light, own-judged, carried-part}
+use Rattle.walk.proofs.Cells.{open-by, Settled, settled, few, depth-small, column-fits, row-fits, may-move, moved-own, own-light, own-judged, carried-part}
 use Rattle.walk.proofs.Recording.{room-one, room-first, room-second, room-third, room-fourth, recorded-one, recorded-cut}
 use Rattle.tables.proofs.to_part.Kinds as to-part-kinds
 use Rattle.tables.proofs.to_part.Reads as to-part-reads
