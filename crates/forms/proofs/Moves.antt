@@ -8,12 +8,12 @@ use lib.IntN.{ℤ, pos, _*ℤ_, natAbs, pow, zero-*ℤ, *ℤ-zero}
 use Rattle.algebra.specs.Sum.{sum, sumℕ, _⋯_}
 use Rattle.algebra.specs.Binomial.{choose, entry}
 use Rattle.algebra.specs.Triangle.{triangle}
-use Rattle.algebra.proofs.Power.{pow-zero, pow-+, one-pow}
+use Rattle.algebra.proofs.Power.{pow-+, one-pow}
 use Rattle.algebra.proofs.Absolute.{natAbs-*ℤ}
 use Rattle.algebra.proofs.Ring.{ring, _⊗_, #_, _≐_}
 use Rattle.algebra.proofs.Sum.{sum-cong, sum-zero, sum-*ℤ, sumℕ-cong, sumℕ-mono, sumℕ-member, *-sumℕ, natAbs-sum-le}
 use Rattle.algebra.proofs.Run.{⋯-member, member-⋯, sum-⋯-from, sum-⋯-upto, sumℕ-span-part}
-use Rattle.algebra.proofs.Binomial.{choose-zero, entry-over, entry-size}
+use Rattle.algebra.proofs.Binomial.{entry-over, entry-size}
 use Rattle.algebra.proofs.Horner.{still}
 use Rattle.forms.specs.Vectors.{total}
 use Rattle.forms.specs.Points.{powersℕ}
@@ -80,13 +80,6 @@ moved-agree d f g u v h e a b = sum-cong (a ⋯ d) (λ i m. sum-cong (b ⋯ (d -
 
 pub moved-still : (d : ℕ) (f : ℕ → ℕ → ℤ) (a b : ℕ) → a + b ≤ d → moved d f (pos 0) (pos 0) (pos 1) a b ≡ f a b
 moved-still d f a b l = sym (moved-both d f (pos 0) (pos 0) a b) ∙ across-agree d (along d f (pos 0)) f (pos 0) (along-still d f) a b (omega arith) ∙ across-still d f a b l
-
--- ---- the first place of a local form is the value at (u, v)
-module _ (d : ℕ) (f : ℕ → ℕ → ℤ) (u v h : ℤ) where
-  pub moved-first : moved d f u v h 0 0 ≡ sum (0 ⋯ d) (λ i. sum (0 ⋯ (d - i)) (λ j. f i j *ℤ pow u i *ℤ pow v j))
-  unfolding moved
-  moved-first = sum-cong (0 ⋯ d) (λ i m. sum-cong (0 ⋯ (d - i)) (λ j l. rw (choose-zero i, choose-zero j, pow-zero h, Nat.sub-zero i, Nat.sub-zero j)
-      (ring (f i j ∷ pow u i ∷ pow v j ∷ []) (λ c u v. c ⊗ # 1 ⊗ # 1 ⊗ u ⊗ v ⊗ # 1 ≐ c ⊗ u ⊗ v) tt)))
 
 module _ (d S : ℕ) (A : ℕ → ℕ → ℤ) (R : ℕ → ℕ) where
   -- |A(i,j)| S^(d-i-j) (S Rx)^i (S Ry)^j, of which the weight is the sum

@@ -1,6 +1,6 @@
 -- `local::measure::range_by` meets its contract: the bounds are the centre less the sizes that are not spared, and the centre and those; the bend is
 -- the sizes less those of the two linear places.
-use mathlib.Core.Path.{_≡_, ap}
+use mathlib.Core.Path.{_≡_, _∙_, ap}
 use Prim.Native.Nat.{ℕ, _+_, _-_, _≤_}
 use native.Mathlib.Omega.{arith}
 use borrow.Author.Needs.{needs}
@@ -32,20 +32,19 @@ sizes-requires c κs = sizable (c .pre .0) (c .pre .1)
 element-copy-out-size : tie.Need-element-copy-out-size
 element-copy-out-size c = search needs
 
--- ---- the sizes of the two linear places
-size-read : (c : tie.After-size-arg) → natAbs (toZ w64 (ofZ w64 (at (c .before .before .args .places .now) 1))) ≡ natAbs (at (c .before .before .args .places .now) 1)
-size-read c = ap natAbs (read64 (at (c .before .before .args .places .now) 1) (c .size-arg .given))
+-- ---- the sizes that are taken off are those of the two linear places
+size-is : (c : tie.After-size) → c .size .result ≡ natAbs (at (c .before .before .before .args .places .now) 1)
+size-is c = c .size .ensures ∙ ap natAbs (read64 (at (c .before .before .before .args .places .now) 1) (c .before .size-arg .given))
 
-size-read-2 : (c : tie.After-size-arg2) → let s = c .before .before .before .before .args in natAbs (toZ w64 (ofZ w64 (at (s .places .now) (s .d + 1)))) ≡ natAbs (at (s .places .now) (s .d + 1))
-size-read-2 c = let s = c .before .before .before .before .args in ap natAbs (read64 (at (s .places .now) (s .d + 1)) (c .size-arg2 .given))
+size-is-2 : (c : tie.After-size2) → let s = c .before .before .before .before .before .args in c .size2 .result ≡ natAbs (at (s .places .now) (s .d + 1))
+size-is-2 c = let s = c .before .before .before .before .before .args in c .size2 .ensures ∙ ap natAbs (read64 (at (s .places .now) (s .d + 1)) (c .before .size-arg2 .given))
 
 size-requires : tie.Need-size-requires
 size-requires c κs =
-    let s = c .before .before in let r = room (s .pre .0) (s .pre .1) in let b = bend-rest (s .pre .0) (s .pre .1) in let e = size-read c in omega arith
+    let s = c .before .before in let r = room (s .pre .0) (s .pre .1) in let b = bend-rest (s .pre .0) (s .pre .1) in rw (read64 (at (s .args .places .now) 1) (c .size-arg .given)) (omega arith)
 
 sub-bend : tie.Need-sub-bend
-sub-bend c =
-    let s = c .before .before .before in let b = bend-rest (s .pre .0) (s .pre .1) in let e = size-read (c .before) in omega arith
+sub-bend c = let s = c .before .before .before in let b = bend-rest (s .pre .0) (s .pre .1) in let e = size-is c in omega arith
 
 add-size : tie.Need-add-size
 add-size c = search needs
@@ -58,12 +57,11 @@ element-copy-out-size-2 c = search needs
 
 size-requires-2 : tie.Need-size-requires-2
 size-requires-2 c κs =
-    let s = c .before .before .before .before in let r = room (s .pre .0) (s .pre .1) in let b = bend-rest (s .pre .0) (s .pre .1) in let e = size-read-2 c in omega arith
+    let s = c .before .before .before .before in let r = room (s .pre .0) (s .pre .1) in let b = bend-rest (s .pre .0) (s .pre .1) in rw (read64 (at (s .args .places .now) (s .args .d + 1)) (c .size-arg2 .given)) (omega arith)
 
 sub-bend-2 : tie.Need-sub-bend-2
 sub-bend-2 c =
-    let s = c .before .before .before .before .before in let b = bend-rest (s .pre .0) (s .pre .1) in
-    let e = size-read (c .before .before .before) in let f = size-read-2 (c .before) in omega arith
+    let s = c .before .before .before .before .before in let b = bend-rest (s .pre .0) (s .pre .1) in let e = size-is (c .before .before) in let f = size-is-2 c in omega arith
 
 spared-in-requires : tie.Need-spared-in-requires
 spared-in-requires c κs = search needs
@@ -109,8 +107,7 @@ module _ (k : tie.After-centre) where
 
   bend-read : total - k .before .before .before .before .size .result - k .before .before .size2 .result ≡ bend-of (start .args .d) (held (start .args .places .now) (start .args .d))
   bend-read =
-      let b = bend-rest (start .pre .0) (start .pre .1) in let e = size-read (k .before .before .before .before .before) in let f = size-read-2 (k .before .before .before) in
-      let t = total-is in omega arith
+      let b = bend-rest (start .pre .0) (start .pre .1) in let e = size-is (k .before .before .before .before) in let f = size-is-2 (k .before .before) in let t = total-is in omega arith
 
 sub-lower : tie.Need-sub-lower
 sub-lower c = let k = c .before in fall-within (start k .pre .0) (start k .pre .1) (start k .args .mode) (total-is k) (spare-is k)

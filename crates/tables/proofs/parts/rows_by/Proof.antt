@@ -16,8 +16,9 @@ above c = let s = c .before .before in plus-one (s .args .s) (s .pre .1) (rw (to
 none : (c : tie.Else2) → c .before .before .args .s ≡ pos 0
 none c = let s = c .before .before in no-side (s .args .s) (rw (toZ-ofZ (s .fits .s)) at (c .before .if1 .left)) (rw (toZ-ofZ (s .fits .s)) at (c .if2 .left))
 
+-- the room for 1 is that for -1, too
 move-rows-requires : tie.Need-move-rows-requires
-move-rows-requires c κs = rw (below (c .before)) at (c .before .before .pre .2)
+move-rows-requires c κs = let p = rw (below (c .before)) at (c .before .before .pre .2) in record { inside = p .inside; light = p .light }
 
 move-rows-requires-2 : tie.Need-move-rows-requires-2
 move-rows-requires-2 c κs = rw (above (c .before)) at (c .before .before .before .pre .2)

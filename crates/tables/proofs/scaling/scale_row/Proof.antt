@@ -1,6 +1,6 @@
 -- `scaling::scale_row` meets its contract: place by place, each by its own power.
 use mathlib.Core.Path.{_≡_, _∙_}
-use Prim.Native.Nat.{ℕ, _+_, _-_, _^_, _≤_}
+use Prim.Native.Nat.{ℕ, _+_, _*_, _-_, _^_, _≤_, _<_}
 use native.Mathlib.Nat as Nat
 use native.Mathlib.Omega.{arith}
 use lib.IntN.{pos, _*ℤ_}
@@ -37,21 +37,21 @@ slice-copy-out-g c = omega arith
 add-times-power : tie.Need-add-times-power Inv-loop μ-loop
 add-times-power c = omega arith
 
--- the exponents are small, both and together
-few : {e f t n : ℕ} → e ≤ 17 → f ≤ 8 → t ≤ 8 → n ≤ 8 → doublings e f t n ≤ 200
-few p q r s = let x = Nat.mul-le-mul p r in let y = Nat.mul-le-mul q s in omega arith
+-- exponents as small as these, whichever they are: the doublings fit, by each and together
+few : {e t : ℕ} → e ≤ 17 → t ≤ 8 → e * t < 2 ^ 32
+few p q = let h = Nat.mul-le-mul p q in omega arith
 
-exponents : (c : tie.After-g Inv-loop μ-loop) → let s = c .before .before .before .args in let b = c .before .before .loop .b in doublings (s .e) (s .f) (s .a + b) (s .n - b) ≤ 200
-exponents c = few (omega arith) (omega arith) (omega arith) (omega arith)
+few-together : {e f t n : ℕ} → e ≤ 17 → f ≤ 8 → t ≤ 8 → n ≤ 8 → doublings e f t n < 2 ^ 32
+few-together p q r s = let x = Nat.mul-le-mul p r in let y = Nat.mul-le-mul q s in omega arith
 
 mul-times-power : tie.Need-mul-times-power Inv-loop μ-loop
-mul-times-power c = let h = exponents c in omega arith
+mul-times-power c = record { fits = few (omega arith) (omega arith) }
 
 mul-times-power-2 : tie.Need-mul-times-power-2 Inv-loop μ-loop
-mul-times-power-2 c = let h = exponents c in omega arith
+mul-times-power-2 c = record { fits = few (omega arith) (omega arith) }
 
 add-times-power-2 : tie.Need-add-times-power-2 Inv-loop μ-loop
-add-times-power-2 c = let h = exponents c in omega arith
+add-times-power-2 c = record { fits = few-together (omega arith) (omega arith) (omega arith) (omega arith) }
 
 -- the number that is read is the old one
 same : (c : tie.After-g Inv-loop μ-loop) → let s = c .before .before .before .args in let l = c .before .before .loop in toZ w64 (ofZ w64 (at (l .places) (s .first + l .b))) ≡ at (s .places .now) (s .first + l .b)

@@ -120,7 +120,7 @@ cut-mul-low t c = let n = row-fits (held t (c .before .before .before)) in omega
 cut-examine-requires : (t : ℕ) → cut-lts.Need-examine-requires (cut-calls t) (cut-at t) cut.Post
 cut-examine-requires t c κs =
     let h = c .before in let s = h .before .before .before in let o = held t s in
-    (omega arith, (record { sheet = o .sheet; near = part t h (left (s .args .p)) (left (s .args .q)) (omega arith) (omega arith) (o .sheet) (o .own) }, omega arith))
+    (omega arith, (record { sheet = o .sheet; near = part t h (search (left, right)) (search (left, right)) (omega arith) (omega arith) (o .sheet) (o .own) }, omega arith))
 
 cut-add-examine : (t : ℕ) → cut-lts.Need-add-examine (cut-calls t) (cut-at t) cut.Post
 cut-add-examine t c = let h = held t (c .before .before .before .before .before .before .before .before) in let m = column-fits h in let n = row-fits h in omega arith
@@ -128,7 +128,7 @@ cut-add-examine t c = let h = held t (c .before .before .before .before .before 
 cut-examine-requires-2 : (t : ℕ) → cut-lts.Need-examine-requires-2 (cut-calls t) (cut-at t) cut.Post
 cut-examine-requires-2 t c κs =
     let h = c .before .before .before .before .before in let s = h .before .before .before in let o = held t s in
-    (omega arith, (record { sheet = o .sheet; near = part t h (right (s .args .p)) (left (s .args .q)) (omega arith) (omega arith) (o .sheet) (o .own) }, omega arith))
+    (omega arith, (record { sheet = o .sheet; near = part t h (search (left, right)) (search (left, right)) (omega arith) (omega arith) (o .sheet) (o .own) }, omega arith))
 
 cut-add-examine-2 : (t : ℕ) → cut-lts.Need-add-examine-2 (cut-calls t) (cut-at t) cut.Post
 cut-add-examine-2 t c = let h = held t (c .before .before .before .before .before .before .before .before .before .before .before .before) in let m = column-fits h in let n = row-fits h in omega arith
@@ -136,7 +136,7 @@ cut-add-examine-2 t c = let h = held t (c .before .before .before .before .befor
 cut-examine-requires-3 : (t : ℕ) → cut-lts.Need-examine-requires-3 (cut-calls t) (cut-at t) cut.Post
 cut-examine-requires-3 t c κs =
     let h = c .before .before .before .before .before .before .before .before .before in let s = h .before .before .before in let o = held t s in
-    (omega arith, (record { sheet = o .sheet; near = part t h (left (s .args .p)) (right (s .args .q)) (omega arith) (omega arith) (o .sheet) (o .own) }, omega arith))
+    (omega arith, (record { sheet = o .sheet; near = part t h (search (left, right)) (search (left, right)) (omega arith) (omega arith) (o .sheet) (o .own) }, omega arith))
 
 cut-add-examine-3 : (t : ℕ) → cut-lts.Need-add-examine-3 (cut-calls t) (cut-at t) cut.Post
 cut-add-examine-3 t c = let n = column-fits (held t (c .before .before .before .before .before .before .before .before .before .before .before .before .before .before .before .before)) in omega arith
@@ -147,15 +147,15 @@ cut-add-examine-4 t c = let n = row-fits (held t (c .before .before .before .bef
 cut-examine-requires-4 : (t : ℕ) → cut-lts.Need-examine-requires-4 (cut-calls t) (cut-at t) cut.Post
 cut-examine-requires-4 t c κs =
     let h = c .before .before .before .before .before .before .before .before .before .before .before .before .before in let s = h .before .before .before in let o = held t s in
-    (omega arith, (record { sheet = o .sheet; near = part t h (right (s .args .p)) (right (s .args .q)) (omega arith) (omega arith) (o .sheet) (o .own) }, omega (arith, s .pre .1 .1, c .before .before .before .examine3 .kept .0, c .before .before .before .before .before .before .before .examine2 .kept .0, c .before .before .before .before .before .before .before .before .before .before .before .examine .kept .0)))
+    (omega arith, (record { sheet = o .sheet; near = part t h (search (left, right)) (search (left, right)) (omega arith) (omega arith) (o .sheet) (o .own) }, omega (arith, s .pre .1 .1, c .before .before .before .examine3 .kept .0, c .before .before .before .before .before .before .before .examine2 .kept .0, c .before .before .before .before .before .before .before .before .before .before .before .examine .kept .0)))
 
 cut-cut-cell-requires : (t : ℕ) → cut-lts.Need-cut-cell-requires (cut-calls t) (cut-at t) cut.Post
 cut-cut-cell-requires t c κs =
     let h = c .before .before .before .before .before .before .before .before .before .before .before .before .before .before .before .before in let s = h .before .before .before in let a = s .args in let o = held t s in let k = depth-small o in (
-      few (verdict (o .sheet) (mode-of (a .mode))) _ _ _ _ _ k (c .before .before .before .before .before .before .before .before .before .before .before .before .before .before .examine .ensures (o .sheet) (part t h (left (a .p)) (left (a .q)) (omega arith) (omega arith) (o .sheet) (o .own)) .counted),
-      few (verdict (o .sheet) (mode-of (a .mode))) _ _ _ _ _ k (c .before .before .before .before .before .before .before .before .before .before .examine2 .ensures (o .sheet) (part t h (right (a .p)) (left (a .q)) (omega arith) (omega arith) (o .sheet) (o .own)) .counted),
-      few (verdict (o .sheet) (mode-of (a .mode))) _ _ _ _ _ k (c .before .before .before .before .before .before .examine3 .ensures (o .sheet) (part t h (left (a .p)) (right (a .q)) (omega arith) (omega arith) (o .sheet) (o .own)) .counted),
-      few (verdict (o .sheet) (mode-of (a .mode))) _ _ _ _ _ k (c .before .before .examine4 .ensures (o .sheet) (part t h (right (a .p)) (right (a .q)) (omega arith) (omega arith) (o .sheet) (o .own)) .counted),
+      few (verdict (o .sheet) (mode-of (a .mode))) _ _ _ _ _ k (c .before .before .before .before .before .before .before .before .before .before .before .before .before .before .examine .ensures (o .sheet) (part t h (search (left, right)) (search (left, right)) (omega arith) (omega arith) (o .sheet) (o .own)) .counted),
+      few (verdict (o .sheet) (mode-of (a .mode))) _ _ _ _ _ k (c .before .before .before .before .before .before .before .before .before .before .examine2 .ensures (o .sheet) (part t h (search (left, right)) (search (left, right)) (omega arith) (omega arith) (o .sheet) (o .own)) .counted),
+      few (verdict (o .sheet) (mode-of (a .mode))) _ _ _ _ _ k (c .before .before .before .before .before .before .examine3 .ensures (o .sheet) (part t h (search (left, right)) (search (left, right)) (omega arith) (omega arith) (o .sheet) (o .own)) .counted),
+      few (verdict (o .sheet) (mode-of (a .mode))) _ _ _ _ _ k (c .before .before .examine4 .ensures (o .sheet) (part t h (search (left, right)) (search (left, right)) (omega arith) (omega arith) (o .sheet) (o .own)) .counted),
     )
 
 cut-same-length : (t : ℕ) → cut-lts.Need-same-length (cut-calls t) (cut-at t) cut.Post
@@ -165,10 +165,10 @@ cut-returns : (t : ℕ) → cut-lts.Need-returns (cut-calls t) (cut-at t) cut.Po
 cut-returns t c S f o =
     let h = c .before .before .before .before .before .before .before .before .before .before .before .before .before .before .before .before .before in let s = h .before .before .before in let a = s .args in
     rw (c .cut-cell .ensures) (examined-cut (verdict S (mode-of (a .mode))) (a .k) (a .level) (a .p) (a .q) _ _ _ _ _ _ _ _ _ (s .pre .1 .2) (open-by _ o)
-    (c .before .before .before .before .before .before .before .before .before .before .before .before .before .before .before .examine .ensures S (part t h (left (a .p)) (left (a .q)) (omega arith) (omega arith) S f))
-    (c .before .before .before .before .before .before .before .before .before .before .before .examine2 .ensures S (part t h (right (a .p)) (left (a .q)) (omega arith) (omega arith) S f))
-    (c .before .before .before .before .before .before .before .examine3 .ensures S (part t h (left (a .p)) (right (a .q)) (omega arith) (omega arith) S f))
-    (c .before .before .before .examine4 .ensures S (part t h (right (a .p)) (right (a .q)) (omega arith) (omega arith) S f)))
+    (c .before .before .before .before .before .before .before .before .before .before .before .before .before .before .before .examine .ensures S (part t h (search (left, right)) (search (left, right)) (omega arith) (omega arith) S f))
+    (c .before .before .before .before .before .before .before .before .before .before .before .examine2 .ensures S (part t h (search (left, right)) (search (left, right)) (omega arith) (omega arith) S f))
+    (c .before .before .before .before .before .before .before .examine3 .ensures S (part t h (search (left, right)) (search (left, right)) (omega arith) (omega arith) S f))
+    (c .before .before .before .examine4 .ensures S (part t h (search (left, right)) (search (left, right)) (omega arith) (omega arith) S f)))
 
 -- ---- examine
 abbrev Examine : ℕ → Type 0

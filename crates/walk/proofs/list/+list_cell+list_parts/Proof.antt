@@ -236,7 +236,7 @@ list-parts-list-cell-requires t c κs =
     let h = c .before in let s = h .before .before .before in let o = held t s in (
       omega arith,
       (
-        record { sheet = o .sheet; near = part t h (left (s .args .p)) (left (s .args .q)) (omega arith) (omega arith) (o .sheet) (o .own) },
+        record { sheet = o .sheet; near = part t h (search (left, right)) (search (left, right)) (omega arith) (omega arith) (o .sheet) (o .own) },
         room-first _ _ _ (s .args .place .now) (s .pre .1 .2) (s .pre .1 .1),
       ),
     )
@@ -249,8 +249,8 @@ list-parts-list-cell-requires-2 t c κs =
     let x₁ = c .before .before .before in let h = x₁ .before .before in let s = h .before .before .before in let o = held t s in (
       omega arith,
       (
-        record { sheet = o .sheet; near = part t h (right (s .args .p)) (left (s .args .q)) (omega arith) (omega arith) (o .sheet) (o .own) },
-        room-second _ _ _ _ (s .pre .1 .2) (s .pre .1 .1) (x₁ .list-cell .ensures (o .sheet) (part t h (left (s .args .p)) (left (s .args .q)) (omega arith) (omega arith) (o .sheet) (o .own))),
+        record { sheet = o .sheet; near = part t h (search (left, right)) (search (left, right)) (omega arith) (omega arith) (o .sheet) (o .own) },
+        room-second _ _ _ _ (s .pre .1 .2) (s .pre .1 .1) (x₁ .list-cell .ensures (o .sheet) (part t h (search (left, right)) (search (left, right)) (omega arith) (omega arith) (o .sheet) (o .own))),
       ),
     )
 
@@ -262,8 +262,8 @@ list-parts-list-cell-requires-3 t c κs =
     let x₂ = c .before .before .before in let x₁ = x₂ .before .before .before .before in let h = x₁ .before .before in let s = h .before .before .before in let o = held t s in (
       omega arith,
       (
-        record { sheet = o .sheet; near = part t h (left (s .args .p)) (right (s .args .q)) (omega arith) (omega arith) (o .sheet) (o .own) },
-        room-third _ _ _ _ (s .pre .1 .2) (s .pre .1 .1) (x₁ .list-cell .ensures (o .sheet) (part t h (left (s .args .p)) (left (s .args .q)) (omega arith) (omega arith) (o .sheet) (o .own))) (x₂ .list-cell2 .ensures (o .sheet) (part t h (right (s .args .p)) (left (s .args .q)) (omega arith) (omega arith) (o .sheet) (o .own))),
+        record { sheet = o .sheet; near = part t h (search (left, right)) (search (left, right)) (omega arith) (omega arith) (o .sheet) (o .own) },
+        room-third _ _ _ _ (s .pre .1 .2) (s .pre .1 .1) (x₁ .list-cell .ensures (o .sheet) (part t h (search (left, right)) (search (left, right)) (omega arith) (omega arith) (o .sheet) (o .own))) (x₂ .list-cell2 .ensures (o .sheet) (part t h (search (left, right)) (search (left, right)) (omega arith) (omega arith) (o .sheet) (o .own))),
       ),
     )
 
@@ -278,8 +278,8 @@ list-parts-list-cell-requires-4 t c κs =
     let x₃ = c .before .before .before in let x₂ = x₃ .before .before .before .before in let x₁ = x₂ .before .before .before .before in let h = x₁ .before .before in let s = h .before .before .before in let o = held t s in (
       omega arith,
       (
-        record { sheet = o .sheet; near = part t h (right (s .args .p)) (right (s .args .q)) (omega arith) (omega arith) (o .sheet) (o .own) },
-        room-fourth _ _ _ _ (s .pre .1 .2) (s .pre .1 .1) (x₁ .list-cell .ensures (o .sheet) (part t h (left (s .args .p)) (left (s .args .q)) (omega arith) (omega arith) (o .sheet) (o .own))) (x₂ .list-cell2 .ensures (o .sheet) (part t h (right (s .args .p)) (left (s .args .q)) (omega arith) (omega arith) (o .sheet) (o .own))) (x₃ .list-cell3 .ensures (o .sheet) (part t h (left (s .args .p)) (right (s .args .q)) (omega arith) (omega arith) (o .sheet) (o .own))),
+        record { sheet = o .sheet; near = part t h (search (left, right)) (search (left, right)) (omega arith) (omega arith) (o .sheet) (o .own) },
+        room-fourth _ _ _ _ (s .pre .1 .2) (s .pre .1 .1) (x₁ .list-cell .ensures (o .sheet) (part t h (search (left, right)) (search (left, right)) (omega arith) (omega arith) (o .sheet) (o .own))) (x₂ .list-cell2 .ensures (o .sheet) (part t h (search (left, right)) (search (left, right)) (omega arith) (omega arith) (o .sheet) (o .own))) (x₃ .list-cell3 .ensures (o .sheet) (part t h (search (left, right)) (search (left, right)) (omega arith) (omega arith) (o .sheet) (o .own))),
       ),
     )
 
@@ -287,10 +287,10 @@ list-parts-cut-cell-requires : (t : ℕ) → list-parts-lts.Need-cut-cell-requir
 list-parts-cut-cell-requires t c κs =
     let x₄ = c .before .before in let x₃ = x₄ .before .before .before .before in let x₂ = x₃ .before .before .before .before in let x₁ = x₂ .before .before .before .before in let h = x₁ .before .before in let s = h .before .before .before in let o = held t s in
     let l = depth-small o in (
-      few _ _ _ _ _ _ l (x₁ .list-cell .ensures (o .sheet) (part t h (left (s .args .p)) (left (s .args .q)) (omega arith) (omega arith) (o .sheet) (o .own)) .counted),
-      few _ _ _ _ _ _ l (x₂ .list-cell2 .ensures (o .sheet) (part t h (right (s .args .p)) (left (s .args .q)) (omega arith) (omega arith) (o .sheet) (o .own)) .counted),
-      few _ _ _ _ _ _ l (x₃ .list-cell3 .ensures (o .sheet) (part t h (left (s .args .p)) (right (s .args .q)) (omega arith) (omega arith) (o .sheet) (o .own)) .counted),
-      few _ _ _ _ _ _ l (x₄ .list-cell4 .ensures (o .sheet) (part t h (right (s .args .p)) (right (s .args .q)) (omega arith) (omega arith) (o .sheet) (o .own)) .counted),
+      few _ _ _ _ _ _ l (x₁ .list-cell .ensures (o .sheet) (part t h (search (left, right)) (search (left, right)) (omega arith) (omega arith) (o .sheet) (o .own)) .counted),
+      few _ _ _ _ _ _ l (x₂ .list-cell2 .ensures (o .sheet) (part t h (search (left, right)) (search (left, right)) (omega arith) (omega arith) (o .sheet) (o .own)) .counted),
+      few _ _ _ _ _ _ l (x₃ .list-cell3 .ensures (o .sheet) (part t h (search (left, right)) (search (left, right)) (omega arith) (omega arith) (o .sheet) (o .own)) .counted),
+      few _ _ _ _ _ _ l (x₄ .list-cell4 .ensures (o .sheet) (part t h (search (left, right)) (search (left, right)) (omega arith) (omega arith) (o .sheet) (o .own)) .counted),
     )
 
 list-parts-same-length : (t : ℕ) → list-parts-lts.Need-same-length (list-parts-calls t) (list-parts-at t) list-parts.Post
@@ -300,10 +300,10 @@ list-parts-returns : (t : ℕ) → list-parts-lts.Need-returns (list-parts-calls
 list-parts-returns t c S f e =
     let x₄ = c .before .before .before in let x₃ = x₄ .before .before .before .before in let x₂ = x₃ .before .before .before .before in let x₁ = x₂ .before .before .before .before in let h = x₁ .before .before in let s = h .before .before .before in
     rw (c .cut-cell .ensures) (recorded-cut (s .pre .1 .2) (open-by _ e)
-    (x₁ .list-cell .ensures S (part t h (left (s .args .p)) (left (s .args .q)) (omega arith) (omega arith) S f))
-    (x₂ .list-cell2 .ensures S (part t h (right (s .args .p)) (left (s .args .q)) (omega arith) (omega arith) S f))
-    (x₃ .list-cell3 .ensures S (part t h (left (s .args .p)) (right (s .args .q)) (omega arith) (omega arith) S f))
-    (x₄ .list-cell4 .ensures S (part t h (right (s .args .p)) (right (s .args .q)) (omega arith) (omega arith) S f)))
+    (x₁ .list-cell .ensures S (part t h (search (left, right)) (search (left, right)) (omega arith) (omega arith) S f))
+    (x₂ .list-cell2 .ensures S (part t h (search (left, right)) (search (left, right)) (omega arith) (omega arith) S f))
+    (x₃ .list-cell3 .ensures S (part t h (search (left, right)) (search (left, right)) (omega arith) (omega arith) S f))
+    (x₄ .list-cell4 .ensures S (part t h (search (left, right)) (search (left, right)) (omega arith) (omega arith) S f)))
 
 pub +list-cell+list-parts-spec : {M : Type 1} → statement M
 +list-cell+list-parts-spec = close μ-list-cell μ-list-parts
