@@ -1,12 +1,11 @@
 /* The work of the calls raster and listing in plain C, for a timing beside the proved program.
 
-   It goes the same way: the weight with a ceiling, the scaled form and that of the whole sheet once, and for each cell that is visited the range with
+   It does what that does: the weight with a ceiling, the scaled form and that of the whole sheet once, and for each cell that is visited the range with
    its bend, the verdict, and then a cut, with the forms of the four parts, or the largest bend so far of the coloured cells and a block of the raster
    or a record: one recursion for rasters, which stands here, and one for listings, which stands in bench/plain.h with the rest. Forms are handed on by
-   pointers, and those of the four parts of a cell are worked out before the first part is examined (bench/plain_forms.h, which has other ways to choose
-   from, too). It reads and answers
-   cases as crates/compare does, so that both can be fed one file and their answers compared byte for byte; it knows only calls 3 and 4. Nothing here
-   is proved.
+   pointers, and those of the four parts are worked out before the first part is examined (bench/plain_forms.h, which has other ways to choose from).
+   It reads and answers cases as crates/compare does, so that both can be fed one file and their answers compared byte for byte; it knows only calls 3
+   and 4. Nothing here is proved.
 
    The proved program is for x86-64: where that is run under an emulator, a fair time asks that this file be compiled for x86-64, too. */
 #include "plain.h"

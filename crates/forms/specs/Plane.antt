@@ -23,7 +23,7 @@ at-pair A (i ∷ j ∷ e) = A i j
 abbrev pub plane : ℕ → ℕ → (ℕ → ℕ → ℤ) → Polynomial
 plane d S A = record { variables = 2; degree = d; scale = S; coefficient = at-pair A }
 
--- the second variable moved by v, f(x, y + v), and the first by u, f(x + u, y): what is added up by columns, and by rows
+-- the second variable moved by v, f(x, y + v): a sum along row i; and the first by u, f(x + u, y): a sum along column b
 unfoldable pub along : ℕ → (ℕ → ℕ → ℤ) → ℤ → ℕ → ℕ → ℤ
 along d f v i b = sum (0 ⋯ (d - i)) (λ j. f i j *ℤ entry v (pos 1) j b)
 

@@ -108,7 +108,7 @@ pub row-spared : (places : List ℤ) (d a : ℕ) {first from n : ℕ} {r : Spare
 row-spared places d a p e f g v = (ap (λ (r : Spare). r .fall) p ∙ rows-at above-zero places d a e f g v, ap (λ (r : Spare). r .rise) p ∙ rows-at below-zero places d a e f g v)
 
 -- a row of a light table may be added up
-pub light-row : {d : ℕ} {places : List ℤ} → Light d places → (a : ℕ) {first from n : ℕ} → first ≡ row-start d a → n ≡ d - a → a ≤ d → from % 2 ≤ 0 → RowSparable places first from n
+pub light-row : {d : ℕ} {places : List ℤ} → Light d places → (a : ℕ) {first from n : ℕ} → first ≡ row-start d a → n ≡ d - a → a ≤ d → from % 2 ≡ 0 → RowSparable places first from n
 light-row {d} {places} l a e g h v =
     let s = l .small in
     rw (e, g) (record {

@@ -18,7 +18,7 @@ pub added-start : (f : ℕ → ℕ) (s n : ℕ) → Added f s n s 0
 added-start f s n = record { whole = omega arith }
 
 -- terms of zero at the beginning may be passed over
-pub added-from : (f : ℕ → ℕ) (k n : ℕ) → ((i : ℕ) → i < k → f i ≡ 0) → Added f 0 (suc n) k 0
+added-from : (f : ℕ → ℕ) (k n : ℕ) → ((i : ℕ) → i < k → f i ≡ 0) → Added f 0 (suc n) k 0
 unfolding _⋯_
 added-from f k n z =
     let e : sumℕ (0 ⋯ n) f ≡ sumℕ (k ⋯ n) f = ap natAbs (pos-sumℕ (0 ⋯ n) f ∙ sum-⋯-from k n (λ i. pos (f i)) (λ i l. ap pos (z i l)) ∙ sym (pos-sumℕ (k ⋯ n) f)) in
@@ -50,7 +50,7 @@ module _ {f : ℕ → ℕ} {s n k done : ℕ} (h : Added f s n k done) where
     added-next = let p = one-apart f {j = k + 1} n (omega arith) l in record { whole = omega arith }
 
     -- two places on
-    pub added-two : k % 2 ≡ 0 → EvenOnly f → Added f s n (k + 2) (done + t)
+    added-two : k % 2 ≡ 0 → EvenOnly f → Added f s n (k + 2) (done + t)
     added-two even odd =
         let p = added-next .whole in let q = one-over f {k = k + 1} {j = k + 2} n (omega arith) (odd (k + 1) (omega arith)) in record { whole = omega arith }
 

@@ -1,4 +1,5 @@
 -- The range of a form: the two bounds and the bend, for any table g(a,b), a + b ≤ d, and the verdict by a range.
+use mathlib.Core.Path.{_≡_}
 use mathlib.Core.Bool.{cond, _&&_}
 use mathlib.Core.List.{List, [], _∷_}
 use Prim.Native.Nat.{ℕ, zero, suc, _+_, _-_, _%_, _^_, _≤_, _<_}
@@ -67,7 +68,7 @@ row-spare-of places first from n = record {
 }
 
 pub record RowSparable (places : List ℤ) (first from n : ℕ) : Type 0 where
-  pub even : from % 2 ≤ 0
+  pub even : from % 2 ≡ 0
   pub short : n ≤ 8
   pub inside : first + n < 45
   pub light : sumℕ (0 ⋯ n) (λ b. natAbs (row-of places first b)) < 2 ^ 62
@@ -80,9 +81,6 @@ spare-of places d = record {
   fall = triangle d (λ a b. spares a b (above-zero (held places d a b)));
   rise = triangle d (λ a b. spares a b (below-zero (held places d a b)));
 }
-
-abbrev pub Sparable : List ℤ → ℕ → Type 0
-Sparable places d = Light d places
 
 -- in a mode
 abbrev pub spare-in : ℕ → List ℤ → ℕ → Spare

@@ -8,11 +8,11 @@ ghost use mathlib.Core.Path.{_≡_};
 ghost use Prim.Native.Nat.{_≤_};
 ghost use Rattle.forms.specs.Bounds.{mode-of};
 ghost use Rattle.tables.specs.Table.{held};
-ghost use Rattle.local.specs.Range.{Light, range-of, Sparable, spare-in};
+ghost use Rattle.local.specs.Range.{Light, range-of, spare-in};
 
 // What the even rule spares in this mode.
 fn spared_in(places: &[i64; 45], d: usize, mode: u32) -> Spare
-    requires { ⌜ Sparable (now places) d ⌝ }
+    requires { ⌜ Light d (now places) ⌝ }
     ensures { λ r. ⌜ r ≡ spare-in mode (now (places .entry)) d ⌝ }
 {
     if mode == 0 {

@@ -3,7 +3,7 @@ use crate::Spare;
 ghost use mathlib.Core.Path.{_≡_};
 ghost use Prim.Native.Nat.{_^_, _<_};
 ghost use lib.IntN.{natAbs};
-ghost use Rattle.local.specs.Range.{above-zero, below-zero, Sizable, sizes-of, RowSparable, row-spare-of, Sparable, spare-of};
+ghost use Rattle.local.specs.Range.{above-zero, below-zero, Sizable, sizes-of, RowSparable, row-spare-of, Light, spare-of};
 
 // The sizes of the places from 1 up to `count`, together.
 pub fn sizes(places: &[i64; 45], count: usize) -> u64
@@ -53,7 +53,7 @@ fn spared_row(places: &[i64; 45], first: usize, from: usize, n: usize) -> Spare
 
 // The rows 0, 2, .. of a table of degree d; of the row 0 not the place 0.
 pub fn spared(places: &[i64; 45], d: usize) -> Spare
-    requires { ⌜ Sparable (now places) d ⌝ }
+    requires { ⌜ Light d (now places) ⌝ }
     ensures { λ r. ⌜ r ≡ spare-of (now (places .entry)) d ⌝ }
 {
     let top = spared_row(places, 0, 2, d);

@@ -116,15 +116,15 @@ module _ {start d : ℕ} {s : ℤ} {old : List ℤ} where
           | no k ↦ r .added a b (omega arith) ∙ ap (λ y. x +ℤ s *ℤ y) (other-rows a b (omega arith))
         ]
 
-    turn : (x y : ℤ) → x +ℤ s *ℤ y ≡ y *ℤ s +ℤ x *ℤ pos 1
-    turn x y = ring (x ∷ s ∷ y ∷ []) (λ x s y. x ⊕ s ⊗ y ≐ y ⊗ s ⊕ x ⊗ # 1) tt
+    exchanged : (x y : ℤ) → x +ℤ s *ℤ y ≡ y *ℤ s +ℤ x *ℤ pos 1
+    exchanged x y = ring (x ∷ s ∷ y ∷ []) (λ x s y. x ⊕ s ⊗ y ≐ y ⊗ s ⊕ x ⊗ # 1) tt
 
     step : {new : List ℤ} → RowsAdded (lower first n) (n + 1) s places new → (a b : ℕ) → a + b ≤ n + 1 → held-from new (lower first n) (n + 1) a b ≡ come old start d s b j a
     step r zero b i =
-        gained r 0 b i ∙ ap (λ x. x +ℤ s *ℤ come old start d s b (suc j) 0) (first-row b (omega arith)) ∙ turn (held-from old start d j b) (come old start d s b (suc j) 0)
+        gained r 0 b i ∙ ap (λ x. x +ℤ s *ℤ come old start d s b (suc j) 0) (first-row b (omega arith)) ∙ exchanged (held-from old start d j b) (come old start d s b (suc j) 0)
         ∙ sym (shifted-zero (column old start d b) s (pos 1) (d - b) j (omega arith))
     step r (suc a) b i =
-        gained r (suc a) b i ∙ ap (λ x. x +ℤ s *ℤ come old start d s b (suc j) (suc a)) (other-rows a b (omega arith)) ∙ turn (come old start d s b (suc j) a) (come old start d s b (suc j) (suc a))
+        gained r (suc a) b i ∙ ap (λ x. x +ℤ s *ℤ come old start d s b (suc j) (suc a)) (other-rows a b (omega arith)) ∙ exchanged (come old start d s b (suc j) a) (come old start d s b (suc j) (suc a))
         ∙ sym (shifted-suc (column old start d b) s (pos 1) (d - b) j a (omega arith))
 
   module _ {places : List ℤ} {first n : ℕ} (o : n < d) (p : Shifting start d s old places first n) where

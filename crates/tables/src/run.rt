@@ -4,7 +4,7 @@ ghost use Prim.Native.Nat.{_+_, _*_, _^_, _<_};
 ghost use lib.IntN.{_+ℤ_, _*ℤ_, natAbs};
 ghost use Rattle.tables.specs.Moves.{Addable, Added};
 
-// x + s y
+// x + s y. Where s is a literal, 1 or -1, that is a sum or a difference.
 fn plus(x: i64, s: i64, y: i64) -> i64
     requires { ⌜ natAbs x + natAbs s * natAbs y < 2 ^ 63 ⌝ }
     ensures { λ r. ⌜ r ≡ x +ℤ s *ℤ y ⌝ }

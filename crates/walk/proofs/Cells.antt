@@ -30,7 +30,7 @@ use Rattle.cells.proofs.Forms.{settled-form, cell-light, verdict-by}
 use Rattle.cells.proofs.Parts.{Side, part-near}
 use Rattle.marks.specs.declared.Seen.{Seen}
 use Rattle.marks.specs.Steps.{one-seen, cut-seen, Few}
-use Rattle.walk.specs.Steps.{Counted, OwnForm, NearForm, Held, Carried}
+use Rattle.walk.specs.Steps.{Counted, OwnForm, NearForm, Owned, Carried}
 
 -- a cell whose own colour is 1 is open
 pub open-by : (w : Verdict) → colour-of (w ∷ []) ≡ 1 → Opened w
@@ -89,7 +89,7 @@ few v k level p q r l h =
 
 -- ---- on the grid
 -- a part of a cell that is not a finest one is on the grid, whichever of the four it is
-pub part-on-grid : (k level p q : ℕ) → level < k → IsCell k level p q → (x y : ℕ) → x ≤ 2 * p + 1 → y ≤ 2 * q + 1 → IsCell k (level + 1) x y
+part-on-grid : (k level p q : ℕ) → level < k → IsCell k level p q → (x y : ℕ) → x ≤ 2 * p + 1 → y ≤ 2 * q + 1 → IsCell k (level + 1) x y
 part-on-grid k level p q l o x y a b = record {
   level = omega arith;
   column = omega (arith, pow-add 2 level 1, o .column);
@@ -116,7 +116,7 @@ pub own-judged : {S : Sheet} {form : Form} {k level p q : ℕ} → OwnForm S for
 own-judged {S} {form} {k} {level} {p} {q} o mode = ap (λ d. judged-by (range-of d mode (held (form .places) d))) (o .degree) ∙ verdict-by S level p q (held (form .places) (S .d)) (o .own .each) mode
 
 -- ---- a cell whose own form is at hand: its numbers are small, and so the columns and rows of its parts fit 32 bits
-module _ {form : Form} {k level p q : ℕ} (h : Held form k level p q) where
+module _ {form : Form} {k level p q : ℕ} (h : Owned form k level p q) where
   pub own-cell : IsCell k level p q
   own-cell = subst (λ n. IsCell n level p q) (h .own .depth) (h .own .own .cell)
 

@@ -56,7 +56,7 @@ pub record Carried (form : Form) (across along : ℤ) (k level p q : ℕ) : Type
   pub sheet : Sheet
   pub near : NearForm sheet form across along k level p q
 
-pub record Held (form : Form) (k level p q : ℕ) : Type 0 where
+pub record Owned (form : Form) (k level p q : ℕ) : Type 0 where
   pub sheet : Sheet
   pub own : OwnForm sheet form k level p q
 

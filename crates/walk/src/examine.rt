@@ -8,7 +8,7 @@ use marks::one_cell;
 use marks::paint_block;
 ghost use Prim.Native.Nat.{_^_, _≤_, _<_};
 ghost use lib.ListN.{length};
-ghost use Rattle.walk.specs.Steps.{Carried, EachExamined, Held, EachCut};
+ghost use Rattle.walk.specs.Steps.{Carried, EachExamined, Owned, EachCut};
 
 // A cell above or below is cleared and is not cut. An open cell at level k is coloured; one at a lower level is cut.
 // The form is near to the cell's: it is moved by `across` and `along`, each -1, 0 or 1, in the cell's own copy.
@@ -41,7 +41,7 @@ pub fn examine(
 
 // Four parts, in the order lower left, lower right, upper left, upper right. Each is handed the form of the whole, halved, and its side.
 fn cut(place: &mut [u8], mut form: Form, k: u32, mode: u32, level: u32, p: u32, q: u32) -> Seen
-    requires { ⌜ Held form k level p q × (4 ^ k ≤ length (now place)) × (level < k) ⌝ }
+    requires { ⌜ Owned form k level p q × (4 ^ k ≤ length (now place)) × (level < k) ⌝ }
     ensures { λ r. ⌜ EachCut form k mode level p q (now (place .entry)) (now (place .exit)) r ⌝ }
 {
     let n = form.degree as usize;

@@ -8,7 +8,7 @@ use marks::cut_cell;
 use marks::one_cell;
 ghost use Prim.Native.Nat.{_-_, _+_, _^_, _≤_, _<_};
 ghost use lib.ListN.{length};
-ghost use Rattle.walk.specs.Steps.{Carried, EachRecorded, Held, EachListed};
+ghost use Rattle.walk.specs.Steps.{Carried, EachRecorded, Owned, EachListed};
 
 // The records of a cell, from `at` on.
 pub fn list_cell(
@@ -52,7 +52,7 @@ fn list_parts(
     p: u32,
     q: u32,
 ) -> Entered
-    requires { ⌜ Held form k level p q × (at + 4 ^ (k - level) ≤ length (now place)) × (level < k) ⌝ }
+    requires { ⌜ Owned form k level p q × (at + 4 ^ (k - level) ≤ length (now place)) × (level < k) ⌝ }
     ensures { λ r. ⌜ EachListed form k mode level p q at (now (place .entry)) (now (place .exit)) r ⌝ }
 {
     let n = form.degree as usize;

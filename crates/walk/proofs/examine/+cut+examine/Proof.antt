@@ -16,7 +16,7 @@ use Rattle.page.specs.Sheet.{Sheet}
 use Rattle.page.specs.Bounds.{verdict}
 use Rattle.local.specs.Range.{judged-by}
 use Rattle.cells.proofs.Parts.{Side, left, right}
-use Rattle.walk.specs.Steps.{NearForm, OwnForm, Held, Carried}
+use Rattle.walk.specs.Steps.{NearForm, OwnForm, Owned, Carried}
 use Rattle.walk.proofs.Cells.{open-by, settled, few, depth-small, own-cell, column-fits, row-fits, may-move, moved-own, own-light, own-judged, carried-part}
 use Rattle.walk.proofs.Painting.{examined-one, examined-cut}
 use Rattle.tables.proofs.to_part.Kinds as to-part-kinds
@@ -93,7 +93,7 @@ examine-calls t = (to-part.Asked, to-part.Learnt, range-on.Asked, range-on.Learn
 abbrev Cut : ℕ → Type 0
 Cut t = cut-lts.Start (cut-calls t) (cut-at t) cut.Post
 
-held : (t : ℕ) (s : Cut t) → Held (s .args .t2) (s .args .k) (s .args .level) (s .args .p) (s .args .q)
+held : (t : ℕ) (s : Cut t) → Owned (s .args .t2) (s .args .k) (s .args .level) (s .args .p) (s .args .q)
 held t s = s .pre .1 .0
 
 -- the form halved is near to the form of a part, whichever sheet it is
@@ -182,7 +182,7 @@ own : (t : ℕ) (c : examine-lts.After-to-part (examine-calls t) (examine-at t) 
     (S : Sheet) → NearForm S (a .t2) (a .across) (a .along) (a .k) (a .level) (a .p) (a .q) → OwnForm S (record { degree = a .t2 .degree; places = c .to-part .last .0 }) (a .k) (a .level) (a .p) (a .q)
 own t c = let s = c .before .before .before in moved-own (rw (toZ-ofZ (s .fits .across), toZ-ofZ (s .fits .along)) at (c .to-part .ensures))
 
-some-own : (t : ℕ) (c : examine-lts.After-to-part (examine-calls t) (examine-at t) examine.Post) → let a = c .before .before .before .args in Held (record { degree = a .t2 .degree; places = c .to-part .last .0 }) (a .k) (a .level) (a .p) (a .q)
+some-own : (t : ℕ) (c : examine-lts.After-to-part (examine-calls t) (examine-at t) examine.Post) → let a = c .before .before .before .args in Owned (record { degree = a .t2 .degree; places = c .to-part .last .0 }) (a .k) (a .level) (a .p) (a .q)
 some-own t c = let h = carried t (c .before .before .before) in record { sheet = h .sheet; own = own t c (h .sheet) (h .near) }
 
 judged : (t : ℕ) (c : examine-lts.After-judge (examine-calls t) (examine-at t) examine.Post) → let a = c .before .before .before .before .before .before .before .args in

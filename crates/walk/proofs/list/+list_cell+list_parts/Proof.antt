@@ -18,7 +18,7 @@ use Rattle.page.specs.Bounds.{verdict}
 use Rattle.local.specs.Range.{judged-by}
 use Rattle.page.proofs.Cells.{column-small, row-small}
 use Rattle.cells.proofs.Parts.{Side, left, right}
-use Rattle.walk.specs.Steps.{NearForm, OwnForm, Held, Carried}
+use Rattle.walk.specs.Steps.{NearForm, OwnForm, Owned, Carried}
 use Rattle.walk.proofs.Cells.{open-by, Settled, settled, few, depth-small, column-fits, row-fits, may-move, moved-own, own-light, own-judged, carried-part}
 use Rattle.walk.proofs.Recording.{room-one, room-first, room-second, room-third, room-fourth, recorded-one, recorded-cut}
 use Rattle.tables.proofs.to_part.Kinds as to-part-kinds
@@ -125,7 +125,7 @@ own : (t : ℕ) (c : list-cell-lts.After-to-part (list-cell-calls t) (list-cell-
     (S : Sheet) → NearForm S (a .t3) (a .across) (a .along) (a .k) (a .level) (a .p) (a .q) → OwnForm S (record { degree = a .t3 .degree; places = c .to-part .last .0 }) (a .k) (a .level) (a .p) (a .q)
 own t c = let s = c .before .before .before in moved-own (rw (toZ-ofZ (s .fits .across), toZ-ofZ (s .fits .along)) at (c .to-part .ensures))
 
-some-own : (t : ℕ) (c : list-cell-lts.After-to-part (list-cell-calls t) (list-cell-at t) list-cell.Post) → let a = c .before .before .before .args in Held (record { degree = a .t3 .degree; places = c .to-part .last .0 }) (a .k) (a .level) (a .p) (a .q)
+some-own : (t : ℕ) (c : list-cell-lts.After-to-part (list-cell-calls t) (list-cell-at t) list-cell.Post) → let a = c .before .before .before .args in Owned (record { degree = a .t3 .degree; places = c .to-part .last .0 }) (a .k) (a .level) (a .p) (a .q)
 some-own t c = let h = carried t (c .before .before .before) in record { sheet = h .sheet; own = own t c (h .sheet) (h .near) }
 
 judged : (t : ℕ) (c : list-cell-lts.After-judge (list-cell-calls t) (list-cell-at t) list-cell.Post) → let a = c .before .before .before .before .before .before .before .args in
@@ -207,7 +207,7 @@ list-cell-returns-2 t c S n =
 abbrev Parts : ℕ → Type 0
 Parts t = list-parts-lts.Start (list-parts-calls t) (list-parts-at t) list-parts.Post
 
-held : (t : ℕ) (s : Parts t) → Held (s .args .t3) (s .args .k) (s .args .level) (s .args .p) (s .args .q)
+held : (t : ℕ) (s : Parts t) → Owned (s .args .t3) (s .args .k) (s .args .level) (s .args .p) (s .args .q)
 held t s = s .pre .1 .0
 
 -- the form halved is near to the form of a part, whichever sheet it is
