@@ -195,9 +195,9 @@ def degree_fault(text, d, said):
     need = int(said["d"] or d)
     if need > d or said["d"] and need == d:
         return "is told of a degree that is no smaller"
-    if need and number(text, d=need - 1, zeros=False) != 10:
+    if need and number(text, d=need - 1, zeros=False) != 18:
         return f"needs no degree of {need}"
-    if said["zeros"] and number(text, d=need) != 10:
+    if said["zeros"] and number(text, d=need) != 18:
         return "is told of terms of 0 that are not in the way"
     answer = number(text, d=need, zeros=not said["zeros"])
     return None if answer == (0 if said["alone"] else 6) else f"is answered by {answer} with a degree of {need}"
@@ -274,7 +274,7 @@ def kinds_in(text, hints):
 def checks(script):
     """What is tried, and whether it is as it should be."""
     def hints(text):
-        first, *more = script.refusal(text, b"refused\t6\t0\n")
+        first, *more = script.refusal(text, b"refused\t6\t0\t0\n")
         return [line.removeprefix("    ") for line in more] if first == SAID and all(line.startswith("    ") for line in more) else ["no hints"]
 
     rng = random.Random(SEED)

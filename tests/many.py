@@ -10,10 +10,10 @@ tests/texts.py: every number, every entry of every place that is lent to raster 
 place after it and at the end. Every walk of the second program is held to what the page says of walks.
 
 At the end stand, for each call, the accepted cases by degree and by depth, and the cases that agreed by their number, 0 for an accepted one, with
-how many of a call's cases are distinct, whatever their places hold; the number of a case of answer is that of its text. Anything that disagrees makes
-the run fail, as does a number that the call can't be refused by; and where there are as many cases as by default, or more, a number, degree or depth,
-or a kind of place, content, largest bend or sheet by its weight, that never came up. So many take half an hour of one processor, half of that on two:
-the gate has 300 of each call.
+how many of a call's cases are distinct, whatever their places hold; the number of a case of answer is that of its text; and for read the bad lines by
+number and field. Anything that disagrees makes the run fail, as does a number that the call can't be refused by; and where there are as many cases as
+by default, or more, a number, degree or depth, a number at a field of a kind of line, or a kind of place, content, largest bend or sheet by its weight,
+that never came up. So many take half an hour of one processor, half of that on two: the gate has 300 of each call.
 """
 import argparse
 import collections
@@ -28,6 +28,7 @@ import time
 sys.dont_write_bytecode = True  # nothing is left in the tree
 import cases
 import compare
+import fault_cases
 import text_places
 import texts
 import weights
@@ -36,8 +37,10 @@ from many_cases import random_text, single_cases, walk_cases
 from program import BUILT
 
 CASES = 100_000
-NUMBERS = range(12)
 REFUSALS = {**cases.REFUSALS, "read": texts.REFUSALS, "answer": texts.REFUSALS}
+# all that are there, and those that some call can answer
+ALL_NUMBERS = range(21)
+NUMBERS = [number for number in ALL_NUMBERS if number == 0 or any(number in some for some in REFUSALS.values())]
 # the kinds of parts: the calls of each, and how many cases of each of them a part has, so that it takes some seconds
 KINDS = {"walks": (cases.WALKS, 500), "texts": (("read", "answer"), 1000), "sheets": (cases.SINGLE, 5000)}
 SHOWN = 5
@@ -98,6 +101,8 @@ def compared_texts(found, made, rng):
         wanted, *expected = texts.second_answer(item)
         number, sheet = wanted[0], texts.described(item.case.text, wanted[0])
         noted(found, "read", item.case.text, number, sheet, (), got == wanted)
+        if number >= 14 and got == wanted:
+            found.agreed["read", "fault", fault_cases.cell_of(*wanted[:3])] += 1
         noted(found, "answer", item.case.text, number, sheet, (item.place.kind, item.place.content), left == expected)
     found.faults.extend(texts.misjudged(made, told) + [*texts.disagreements(items, answers)])
 
@@ -136,14 +141,15 @@ def gathered(seed, parts, jobs):
 
 
 def wanted(call):
-    """What every call must show: each number that it can answer, each degree and each depth, of its places each kind and each content, and of the
-    largest bends and of the sheets each kind."""
+    """What every call must show: each number that it can answer, each degree and each depth, of its places each kind and each content, of the largest
+    bends and of the sheets each kind, and of the faults of lines each."""
     yield from (("number", number) for number in (0, *REFUSALS[call]))
     yield from (("degree", d) for d in range(9))
     yield from (("depth", k) for k in range(8))
     contents = {"raster": cases.CONTENTS, "listing": cases.CONTENTS, "answer": (*text_places.LENGTHS, *text_places.CONTENTS)}
     yield from (("place", thing) for thing in contents.get(call, ()))
     yield from (("largest bend", kind) for kind in LARGEST_BENDS if call in cases.WALKS)
+    yield from (("fault", cell) for cell in fault_cases.every_cell() if call == "read")
     yield from (("sheet", kind) for kind in weights.every_kind())
 
 
@@ -151,7 +157,7 @@ def unwanted(agreed, count):
     """Numbers that came up and can't, and where there are many cases the things that never came up."""
     for call in REFUSALS:
         can = set(wanted(call))
-        yield from (f"{call} is refused by {number}" for number in NUMBERS if agreed[call, "number", number] and ("number", number) not in can)
+        yield from (f"{call} is refused by {number}" for number in ALL_NUMBERS if agreed[call, "number", number] and ("number", number) not in can)
         if count >= CASES:
             yield from (f"never came up: {call}, {thing} {at}" for thing, at in wanted(call) if not agreed[call, thing, at])
 
@@ -167,7 +173,7 @@ def shown(title, heads, rows):
 
 def all_of(agreed, call):
     """How many cases of a call agreed."""
-    return sum(agreed[call, "number", number] for number in NUMBERS)
+    return sum(agreed[call, "number", number] for number in ALL_NUMBERS)
 
 
 def tables(found, calls):
@@ -184,6 +190,7 @@ def tables(found, calls):
     short = sum(agreed["answer", "place", kind] for kind in text_places.SHORT)
     if "answer" in calls:
         print(f"answer: {short} of the places have not the room, and stay as they were")
+        fault_cases.show_cells({cell: agreed["read", "fault", cell] for cell in fault_cases.every_cell()})
 
 
 def main():

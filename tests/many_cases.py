@@ -1,11 +1,12 @@
 """Random cases and texts for tests/many.py: every input of every call at random, nothing by turns.
 
-They are made as in tests/cases.py and tests/text_cases.py. Beside those stand cases in which any input may be any number of its type, and texts
-with a random one of all the faults there. Every depth is walked often; the deepest ones, whose walks are slow, are rarer. What lent places hold is
+They are made as in tests/cases.py, tests/text_cases.py and tests/fault_cases.py. Beside those stand cases in which any input may be any number of its
+type, and texts with a random one, or some at once, of all the faults there. Every depth is walked often; the deepest ones, whose walks are slow, are rarer. What lent places hold is
 drawn by itself, in tests/many.py.
 """
 from case_sheets import EDGE, LEAST31, MOST31, accepted, any_far_out, ends, heavier
 from cases import ENTRIES, LEAST63, MOST32, MOST63, SINGLE, WALKS, arguments, given, other_count, random_case, random_walks
+from fault_cases import any_faults
 from second_text import LONGEST
 from text_cases import (
     BYTES, CEILING, NEGATIVE, NOT_WRITTEN, RANGES, TOO_LARGE, Case,
@@ -71,7 +72,7 @@ def base(rng):
 
 
 def good_text(rng):
-    return Case("good", text_of(good(rng, depths=TEXT_DEPTHS)), 0, 0)
+    return Case("good", text_of(good(rng, depths=TEXT_DEPTHS)), 0, 0, 0)
 
 
 def heavy_text(rng):
@@ -87,7 +88,7 @@ def far_text(rng):
     """A text of a sheet far out along some axis: accepted, just below the limit, or at it."""
     weight = rng.choice((None, None, 2 ** 62 - 1, 2 ** 62))
     rows = rows_of(rng, any_far_out(rng, TEXT_DEPTHS, weight), rng.randint(0, 1))
-    return Case("far out", text_of(rows), 6 if weight == 2 ** 62 else 0, 0)
+    return Case("far out", text_of(rows), 6 if weight == 2 ** 62 else 0, 0, 0)
 
 
 def ranged_text(rng):
@@ -149,8 +150,8 @@ def scribbled_text(rng):
 
 # a maker of texts, and of a hundred texts how many it makes
 MAKERS = {
-    good_text: 37, far_text: 3, heavy_text: 6, ranged_text: 7, several: 7, damaged: 14, mixed: 6,
-    number_text: 4, shaped_text: 3, cut_text: 2, moved_text: 2, terms_text: 2, long_text: 5, scribbled_text: 2,
+    good_text: 35, far_text: 3, heavy_text: 6, ranged_text: 6, several: 6, damaged: 12, mixed: 6,
+    number_text: 4, shaped_text: 3, cut_text: 2, moved_text: 2, terms_text: 2, long_text: 5, scribbled_text: 2, any_faults: 6,
 }
 
 

@@ -14,7 +14,7 @@ SHORT, ROOMY = KINDS[:3], KINDS[3:]
 # bytes of a raster that every depth must show; depth 0 shows all
 BYTES = {0, 1, 2, 3, 255}
 # the refusals of a sheet text
-SHEET_REFUSALS = (1, 3, 4, 5, 6, 10, 11)
+SHEET_REFUSALS = (1, 3, 4, 5, 6, 11, *range(14, 21))
 # what a text may be made to be, with the numbers that it must have come to
 MADE = {
     **{kind: (12,) for kind in (*DAMAGES, *(f"cut short in the {part}" for part in CUT), "another size, too few digits", "many zeros for a size",

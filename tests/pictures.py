@@ -25,6 +25,7 @@ import sys
 
 sys.dont_write_bytecode = True  # nothing is left in the tree
 import devices
+import fault_cases
 import pbm_coverage
 import pbm_rules
 import second_pbm
@@ -41,12 +42,14 @@ SHOWN = 5
 # ---- cases of `depict`
 
 def sheet_texts(rng):
-    """Sheet texts: the whole case, all of sheets/, some of every depth, some refused by each number, and others at random, each walked quickly."""
+    """Sheet texts: the whole case, all of sheets/, some of every depth, some refused by each number, each fault of each kind of line, and others at
+    random, each walked quickly."""
     yield WHOLE
     yield from map(sheets.text, sheets.names())
     yield from (text_cases.text_of(text_cases.rows_of(rng, text_cases.light(rng, d, k), rng.randint(0, 1))) for k in range(8) for d in (1, 2, 3))
     yield from (text_cases.out_of_range(rng, name, values[0]).text for name, (*_, values) in text_cases.RANGES.items())
     yield from (text_cases.at_the_limit(rng).text, WHOLE[:-1], b"", b"\n" * LONGEST, WHOLE + b"\n" * LONGEST, b"x" * 65_536)
+    yield from (fault_cases.with_faults(rng, letter, names).text for letter, names in fault_cases.SETS if len(names) == 1)
     for _ in range(20):
         yield from (make(rng).text for make in (text_cases.several, text_cases.damaged, text_cases.mixed))
         yield text_cases.text_of(text_cases.good(rng))

@@ -94,7 +94,7 @@ def kept_checks(run):
     with old_file() as (folder, out):
         for words in ([], ["--list"], ["--pbm"]):
             status, wrote, err = run(*words, "-o", out, "-", given=b"")
-            refused = (status, wrote) == (1, b"") and err.startswith("standard input: refused by 10: line 1 is missing")
+            refused = (status, wrote) == (1, b"") and err.startswith("standard input: refused by 14: line 1 is missing")
             yield f"a refusal and a file, {words}", refused and held(folder) == {out.name: OLD}
         limited = run("--pbm", "-o", out, "-", given=WHOLE, preexec_fn=lambda: resource.setrlimit(resource.RLIMIT_FSIZE, (5, 5)))
         said = f"sheet: {out} cannot be written: File too large\n"

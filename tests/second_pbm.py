@@ -114,9 +114,9 @@ def read(text, place):
 @functools.cache
 def picture_text(text):
     """What the program `picture` writes for a sheet text: the picture, or the refusal line of the listing program."""
-    number, line, d, X, Y, s, k, mode, coefficients = second_text.read(text)
+    number, line, field, d, X, Y, s, k, mode, coefficients = second_text.read(text)
     if number:
-        return line_of(b"refused", number, line)
+        return line_of(b"refused", number, line, field)
     *_, raster = second.raster(d, list(coefficients[:len(second.exponents(d))]), X, Y, s, k, mode, [0] * 4 ** k)
     return text_of(k, raster)
 
@@ -264,10 +264,11 @@ TOLD = [
     (CORNER, b"P1\n2 2\n11\n01\n"),
     (CLEARED, b"P1\n128 128\n" + ROW * 128),
     (second_text.written("D 0", "B 0 0 0", "K 0", "M 0"), b"P1\n1 1\n1\n"),
-    (b"", b"refused\t10\t1\n"),
-    (second_text.WHOLE[:-1], b"refused\t10\t6\n"),
-    (second_text.written("D 9", *second_text.START[1:]), b"refused\t1\t0\n"),
-    (b"\n" * (second_text.LONGEST + 1), b"refused\t11\t0\n"),
+    (b"", b"refused\t14\t1\t0\n"),
+    (second_text.WHOLE[:-1], b"refused\t20\t6\t0\n"),
+    (second_text.WHOLE + b"T\t0\t0\tx\n", b"refused\t16\t7\t4\n"),
+    (second_text.written("D 9", *second_text.START[1:]), b"refused\t1\t0\t0\n"),
+    (b"\n" * (second_text.LONGEST + 1), b"refused\t11\t0\t0\n"),
 ]
 
 

@@ -33,7 +33,7 @@ def text(name):
 
 
 def sheet(name):
-    number, _, d, X, Y, s, k, mode, coefficients = second_text.read(text(name))
+    number, _, _, d, X, Y, s, k, mode, coefficients = second_text.read(text(name))
     if number:
         raise ValueError(f"sheets/{name}.sheet is refused by {number}")
     return Sheet(d, list(coefficients[:len(second.exponents(d))]), X, Y, s, k, mode)

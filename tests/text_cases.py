@@ -1,8 +1,8 @@
 """Texts for the comparison: good ones, ones with a fault that is known, and ones that are damaged at random.
 
-A case is what was done to make the text, the text, and, where that follows from how it was made, the number and the line of the answer: the second
-program is held to these, too. (Of its limits for the axes that says nothing: sheets at the limit and far out are made by them.) Most good texts are
-of small depth, since a deep walk is slow; each degree comes up at each depth.
+A case is what was done to make the text, the text, and, where that follows from how it was made, the number, the line and the field of the answer: the
+second program is held to these, too. (Of its limits for the axes that says nothing: sheets at the limit and far out are made by them.) Most good texts
+are of small depth, since a deep walk is slow; each degree comes up at each depth. Lines with several faults at once are those of tests/fault_cases.py.
 """
 import collections
 import random
@@ -16,7 +16,8 @@ from second_text import LONGEST, START, WHOLE, written
 # the longest text that the program takes
 CEILING = 262_144
 
-Case = collections.namedtuple("Case", "kind text number line", defaults=(None, None))
+# the faults that were put into one line, with its letter, are those of tests/fault_cases.py
+Case = collections.namedtuple("Case", "kind text number line field faults", defaults=(None, None, None, None))
 
 # how often each depth comes up in random texts
 DEPTHS = (0,) * 3 + (1,) * 6 + (2,) * 8 + (3,) * 5 + (4,)
@@ -87,7 +88,7 @@ def every_degree_and_depth(rng):
     for d in range(9):
         for k in range(8):
             for mode in (0, 1):
-                yield Case("each degree and depth", text_of(rows_of(rng, light(rng, d, k), mode)), 0, 0)
+                yield Case("each degree and depth", text_of(rows_of(rng, light(rng, d, k), mode)), 0, 0, 0)
 
 
 def every_place(rng):
@@ -96,8 +97,8 @@ def every_place(rng):
         for turn in range(4):
             coefficients = rng.sample(range(-999, 1000), len(second.exponents(d)))
             rows = rows_of(rng, Sheet(d, coefficients, -1, rng.choice((-1, 0)), 1, turn % 2), turn // 2)
-            yield Case("all terms", text_of(rows), 0, 0)
-            yield Case("no terms", text_of(rows[:4]), 0, 0)
+            yield Case("all terms", text_of(rows), 0, 0, 0)
+            yield Case("no terms", text_of(rows[:4]), 0, 0, 0)
 
 
 def ends(rng):
@@ -106,10 +107,10 @@ def ends(rng):
         for Y in (-EDGE, EDGE):
             for s in (0, 10):
                 sheet = Sheet(1, [rng.choice((LEAST31, MOST31)), rng.choice((-1, 1)), rng.choice((-1, 1))], X, Y, s, rng.choice((0, 1, 7)))
-                yield Case("ends of the ranges", text_of(rows_of(rng, sheet, rng.randint(0, 1))), 0, 0)
+                yield Case("ends of the ranges", text_of(rows_of(rng, sheet, rng.randint(0, 1))), 0, 0, 0)
     for A in (LEAST31, MOST31, LEAST31 + 1, MOST31 - 1):
         for e in ((0, 0), (0, 1), (1, 0)):
-            yield Case("ends of the ranges", text_of(rows_of(rng, Sheet(1, second.terms(1, {e: A}), -1, 0, 0, 2), 0)), 0, 0)
+            yield Case("ends of the ranges", text_of(rows_of(rng, Sheet(1, second.terms(1, {e: A}), -1, 0, 0, 2), 0)), 0, 0, 0)
 
 
 # ---- refused by 1, 3, 4, 5, 6
@@ -119,7 +120,7 @@ def out_of_range(rng, name, value):
     at, field, number, _ = RANGES[name]
     rows = good(rng)
     rows[at][field] = b"%d" % value
-    return Case(f"{name} beyond its range", text_of(rows), number, 0)
+    return Case(f"{name} beyond its range", text_of(rows), number, 0, 0)
 
 
 def ranged(rng):
@@ -127,25 +128,30 @@ def ranged(rng):
 
 
 def several(rng):
-    """Several numbers beyond their ranges: the first refusal is given; and where a line is bad besides, 10 is."""
+    """Several numbers beyond their ranges: the first refusal is given; but where a line is bad or missing besides, its fault is."""
     rows = small(rng) if rng.random() < 0.5 else good(rng)
     names = rng.sample(sorted(RANGES), rng.randint(2, 5))
     for name in names:
         at, field, _, values = RANGES[name]
         rows[at][field] = b"%d" % rng.choice(values)
-    if rng.random() < 0.2:
+    fate = rng.random()
+    if fate < 0.2:
         spoiled = rng.randrange(len(rows))
-        rows[spoiled][rng.randrange(1, len(rows[spoiled]))] = rng.choice(NOT_WRITTEN)
-        return Case("several beyond their ranges, and a bad line", text_of(rows), 10, spoiled + 1)
-    return Case("several beyond their ranges", text_of(rows), min(RANGES[name][2] for name in names), 0)
+        field = rng.randrange(1, len(rows[spoiled]))
+        rows[spoiled][field] = rng.choice(NOT_WRITTEN)
+        return Case("several beyond their ranges, and a bad line", text_of(rows), 16, spoiled + 1, field + 1)
+    if fate < 0.3:
+        left = rng.randrange(4)
+        return Case("several beyond their ranges, and lines missing", text_of(rows[:left]), 14, left + 1, 0)
+    return Case("several beyond their ranges", text_of(rows), min(RANGES[name][2] for name in names), 0, 0)
 
 
 def at_the_limit(rng):
-    return Case("weight at the limit", text_of(rows_of(rng, heavy(rng, 2 ** 62), rng.randint(0, 1))), 6, 0)
+    return Case("weight at the limit", text_of(rows_of(rng, heavy(rng, 2 ** 62), rng.randint(0, 1))), 6, 0, 0)
 
 
 def below_the_limit(rng, depths=(0, 1, 2)):
-    return Case("weight just below the limit", text_of(rows_of(rng, heavy(rng, 2 ** 62 - 1, depths), rng.randint(0, 1))), 0, 0)
+    return Case("weight just below the limit", text_of(rows_of(rng, heavy(rng, 2 ** 62 - 1, depths), rng.randint(0, 1))), 0, 0, 0)
 
 
 def weighed(rng, count):
@@ -153,10 +159,10 @@ def weighed(rng, count):
     for _ in range(count):
         yield from (at_the_limit(rng), below_the_limit(rng))
     for sheet, number in (one for _ in range(2) for one in every_far_out(rng, (0, 1, 2))):
-        yield Case("far out", text_of(rows_of(rng, sheet, rng.randint(0, 1))), number, 0)
+        yield Case("far out", text_of(rows_of(rng, sheet, rng.randint(0, 1))), number, 0, 0)
     for e in second.exponents(8):
         sheet = Sheet(8, second.terms(8, {e: rng.choice((-1, 1, LEAST31))}), 0, 0, 0, 7)
-        yield Case("degree 8 and depth 7", text_of(rows_of(rng, sheet, rng.randint(0, 1))), 6, 0)
+        yield Case("degree 8 and depth 7", text_of(rows_of(rng, sheet, rng.randint(0, 1))), 6, 0, 0)
     far = [sheet for sheet in limits() if sheet.d <= 8 and sheet.k > 0 and any(sheet.coefficients)]
     for sheet in rng.sample(far, count):
         yield Case("at and beyond the limits", text_of(rows_of(rng, sheet, rng.choice((0, 1, 2)))))
@@ -179,8 +185,9 @@ def anywhere(rng, rows):
 def bad_number(rows, at, field, bad):
     """A text with a field that is no good number there; none where a negative number is good."""
     if bad not in NEGATIVE or (rows[at][0], field) not in ((b"B", 1), (b"B", 2), (b"T", 3)):
+        kind, number = ("a number badly written", 16) if bad in NOT_WRITTEN else ("a number too large or negative", 17)
         line = [*rows[at][:field], bad, *rows[at][field + 1:]]
-        yield Case("a number badly written, too large or negative", text_of([*rows[:at], line, *rows[at + 1:]]), 10, at + 1)
+        yield Case(kind, text_of([*rows[:at], line, *rows[at + 1:]]), number, at + 1, field + 1)
 
 
 def fields(rng):
@@ -193,25 +200,26 @@ def fields(rng):
 
 
 def shapes(line):
-    """A line with another letter, or with other fields."""
-    yield from (("another letter", [letter, *line[1:]]) for letter in OTHER_LETTERS if letter != line[0])
-    yield from (("one field more", line + [more]) for more in (b"", b"0", b"\r", b"#"))
-    yield from (("fields missing", line[:left]) for left in range(len(line)))
-    yield "no letter", line[1:]
-    yield "an empty field", [b"", *line]
-    yield "an empty field", [line[0], b"", *line[1:]]
-    yield from (("another mark between fields", [mark.join(line)]) for mark in (b" ", b",", b"\x0b", b"\t\t", b"\t ", b" \t", b""))
-    yield "another line end", [*line[:-1], line[-1] + b"\r"]
-    yield "an empty line before it", [b"\n" + line[0], *line[1:]]
-    yield "another line end", [b"\r" + line[0], *line[1:]]
-    yield "a line of another form", line[:1] + [b"0"] * (5 - len(line))
+    """A line with another letter, or with other fields; and the number and the field of its fault."""
+    yield from (("another letter", [letter, *line[1:]], 14, 1) for letter in OTHER_LETTERS if letter != line[0])
+    yield from (("one field more", line + [more], 15, 0) for more in (b"", b"0", b"\r", b"#"))
+    yield from (("fields missing", line[:left], 15, 0) for left in range(1, len(line)))
+    yield "fields missing", [], 14, 1
+    yield "no letter", line[1:], 14, 1
+    yield "an empty field", [b"", *line], 14, 1
+    yield "an empty field", [line[0], b"", *line[1:]], 15, 0
+    yield from (("another mark between fields", [mark.join(line)], 14, 1) for mark in (b" ", b",", b"\x0b", b" \t", b""))
+    yield "another mark between fields", [b"\t\t".join(line)], 15, 0
+    yield "another mark between fields", [b"\t ".join(line)], 16, 2
+    yield "another line end", [*line[:-1], line[-1] + b"\r"], 16, len(line)
+    yield "an empty line before it", [b"\n" + line[0], *line[1:]], 14, 1
+    yield "another line end", [b"\r" + line[0], *line[1:]], 14, 1
+    yield "a line of another form", line[:1] + [b"0"] * (5 - len(line)), 15, 0
 
 
 def reshaped(rows, at):
     """One line of another shape."""
-    for kind, other in shapes(rows[at]):
-        if other != rows[at]:
-            yield Case(kind, text_of([*rows[:at], other, *rows[at + 1:]]), 10, at + 1)
+    return (Case(kind, text_of([*rows[:at], other, *rows[at + 1:]]), number, at + 1, field) for kind, other, number, field in shapes(rows[at]))
 
 
 def shaped(rng):
@@ -219,10 +227,17 @@ def shaped(rng):
 
 
 def cut(text, length):
-    """A good text cut off: it is good still where four whole lines are left, and ends in a line that is missing or unended otherwise."""
+    """A good text cut off: it is good still where four whole lines are left, and ends in a line that is missing or unended otherwise.
+
+    An unended line may lack fields besides, or digits of its last one; what is left of a number is a number, but for a sign alone.
+    """
     left = text[:length]
     count, ended = left.count(b"\n"), left[-1:] in (b"", b"\n")
-    return Case("lines missing" if ended else "unended", left, *((0, 0) if ended and count >= 4 else (10, count + 1)))
+    if ended:
+        return Case("lines missing", left, *((0, 0, 0) if count >= 4 else (14, count + 1, 0)))
+    whole, rest = (some.split(b"\n")[count].split(b"\t") for some in (text, left))
+    number, field = (15, 0) if len(rest) < len(whole) else (16, len(rest)) if rest[-1] in (b"", b"-") else (20, 0)
+    return Case("unended", left, number, count + 1, field)
 
 
 def cuts(text):
@@ -233,16 +248,17 @@ def cuts(text):
 def moves(rows):
     """Lines left out, doubled, exchanged, and an empty line between others."""
     for at, line in enumerate(rows):
-        yield Case("a line left out", text_of(rows[:at] + rows[at + 1:]), *((10, at + 1) if at < 4 else (0, 0)))
-        yield Case("a line twice", text_of(rows[:at + 1] + rows[at:]), 10, at + 2)
-        yield Case("a line twice", text_of(rows + [line]), 10, len(rows) + 1)
-        yield Case("an empty line", text_of(rows[:at] + [[b""]] + rows[at:]), 10, at + 1)
+        again, another = (14, 1) if at < 4 else (19, 2), (14, at + 1, 1) if at < 4 else (0, 0, 0)
+        yield Case("a line left out", text_of(rows[:at] + rows[at + 1:]), *(another if at + 1 < len(rows) or at > 3 else (14, 4, 0)))
+        yield Case("a line twice", text_of(rows[:at + 1] + rows[at:]), again[0], at + 2, again[1])
+        yield Case("a line twice", text_of(rows + [line]), again[0], len(rows) + 1, again[1])
+        yield Case("an empty line", text_of(rows[:at] + [[b""]] + rows[at:]), 14, at + 1, 1)
         for after in range(at + 1, min(len(rows), 8)):
             order = list(rows)
             order[at], order[after] = order[after], order[at]
-            yield Case("two lines exchanged", text_of(order), *((10, at + 1) if at < 4 else (0, 0)))
-    yield Case("an empty line", text_of(rows) + b"\n", 10, len(rows) + 1)
-    yield Case("a byte after the end", text_of(rows) + b"\0", 10, len(rows) + 1)
+            yield Case("two lines exchanged", text_of(order), *another)
+    yield Case("an empty line", text_of(rows) + b"\n", 14, len(rows) + 1, 1)
+    yield Case("a byte after the end", text_of(rows) + b"\0", 14, len(rows) + 1, 1)
 
 
 def moved(rng):
@@ -255,19 +271,19 @@ def terms_of(rng, d):
     reach = [(i, j) for i in range(9) for j in range(9) if i + j <= d]
     rng.shuffle(reach)
     whole = head + [row("T", i, j, rng.choice((0, 0, 1, -7))) for i, j in reach]
-    yield Case("every term of a degree", text_of(whole), 1 if d > 8 else 0, 0)
+    yield Case("every term of a degree", text_of(whole), 1 if d > 8 else 0, 0, 0)
     for at in range(len(whole)) if d in (8, 16) else ():
-        yield Case("a bad line among many", text_of([*whole[:at], [*whole[at], b"0"], *whole[at + 1:]]), 10, at + 1)
+        yield Case("a bad line among many", text_of([*whole[:at], [*whole[at], b"0"], *whole[at + 1:]]), 15, at + 1, 0)
     for i, j in reach if d in (4, 8, 16) else rng.sample(reach, min(5, len(reach))):
         A = rng.choice((0, 0, 1, -7))
-        yield Case("a term twice", text_of(whole + [row("T", i, j, A)]), 10, len(whole) + 1)
+        yield Case("a term twice", text_of(whole + [row("T", i, j, A)]), 19, len(whole) + 1, 2)
         first = rng.randrange(5, len(whole) + 1)
-        yield Case("a term twice", text_of([*whole[:first], row("T", *map(int, whole[first - 1][1:3]), A), *whole[first:]]), 10, first + 1)
+        yield Case("a term twice", text_of([*whole[:first], row("T", *map(int, whole[first - 1][1:3]), A), *whole[first:]]), 19, first + 1, 2)
     outside = {(d + 1 - i, i) for i in range(10) if d < 20} | {(9, 0), (0, 9), (9, 9), (8, 9), (256, 0), (0, MOST31), (MOST31, MOST31), (MOST31, 1)}
     for i, j in sorted(outside - set(reach)):
         at = rng.randrange(4, len(whole) + 1)
         if min(i, j) >= 0:
-            yield Case("a term beyond", text_of([*whole[:at], row("T", i, j, rng.choice((0, 1))), *whole[at:]]), 10, at + 1)
+            yield Case("a term beyond", text_of([*whole[:at], row("T", i, j, rng.choice((0, 1))), *whole[at:]]), 18, at + 1, 2)
 
 
 def terms(rng):
@@ -286,18 +302,18 @@ def long_texts(rng, length):
     """Texts of one length, about the limit or longer: no good text is nearly so long, so each of them has a bad line."""
     rows = small(rng)
     text, last = text_of(rows), len(rows)
-    left = length - len(text)
-    for kind, long, line in (
-        ("a long number", stretched(rows, b"9", length), last),
-        ("many zeros", stretched(rows, b"0", length), last),
-        ("many LFs", text + b"\n" * left, last + 1),
-        ("many LFs", b"\n" * length, 1),
-        ("a long line", text + b"T" * left, last + 1),
-        ("many tabs", text + b"\t" * (left - 1) + b"\n", last + 1),
-        ("one term again and again", text + (b"T\t0\t0\t0\n" * left)[:left], None),
-        ("bytes at random", rng.randbytes(length), None),
+    left, again = length - len(text), last + 1 if any(line[1:3] == [b"0", b"0"] for line in rows[4:]) else last + 2
+    for kind, long, *fault in (
+        ("a long number", stretched(rows, b"9", length), 17, last, 4),
+        ("many zeros", stretched(rows, b"0", length), 16, last, 4),
+        ("many LFs", text + b"\n" * left, 14, last + 1, 1),
+        ("many LFs", b"\n" * length, 14, 1, 1),
+        ("a long line", text + b"T" * left, 14, last + 1, 1),
+        ("many tabs", text + b"\t" * (left - 1) + b"\n", 14, last + 1, 1),
+        ("one term again and again", text + (b"T\t0\t0\t0\n" * left)[:left], 19, again, 2),
+        ("bytes at random", rng.randbytes(length)),
     ):
-        yield Case(kind, long, *((11, 0) if length > LONGEST else (10, line)))
+        yield Case(kind, long, *((11, 0, 0) if length > LONGEST else fault))
 
 
 def lengths(rng):
@@ -373,8 +389,8 @@ def mixed(rng):
 def all_cases(seed, count):
     """The texts with known faults and the damaged whole case, and so many random texts."""
     rng = random.Random(seed)
-    cases = [Case("the whole case", WHOLE, 0, 0), *every_degree_and_depth(rng), *every_place(rng), *ends(rng)]
+    cases = [Case("the whole case", WHOLE, 0, 0, 0), *every_degree_and_depth(rng), *every_place(rng), *ends(rng)]
     cases += [*ranged(rng), *weighed(rng, 40), *fields(rng), *shaped(rng), *moved(rng), *terms(rng), *lengths(rng)]
     cases += [*cuts(WHOLE), *cuts(text_of(good(rng, 3, (1,)))), *bytewise(), *every_byte()]
-    makers = [lambda: Case("good", text_of(good(rng)), 0, 0), lambda: several(rng), lambda: damaged(rng), lambda: damaged(rng), lambda: mixed(rng)]
+    makers = [lambda: Case("good", text_of(good(rng)), 0, 0, 0), lambda: several(rng), lambda: damaged(rng), lambda: damaged(rng), lambda: mixed(rng)]
     return cases + [makers[turn % len(makers)]() for turn in range(count)]

@@ -3,14 +3,17 @@
     python3 tests/texts.py [--seed S] [--cases N]     N random texts, beside those of known make
     python3 tests/texts.py --only NUMBER              one text of that run again, by its number
 
-The program target/bin/compare_texts is run once, on all texts of tests/text_cases.py, each with a place for the call `answer`, of tests/text_places.py:
-first each text with a place that has the room, of which what is written is shown, up to 600 entries after it, and the last ones; then texts of every
-answer, and the one with the longest listing, with places of every length and content, of which all is shown. It answers for each 53 words of 8 bytes,
-all little-endian: the number, the line, d, X, Y, s, k, the mode and the 45 coefficients; then in one more word what `answer` answers, and the entries
-that are shown. Every answer is compared with that of tests/second_text.py; and where the number and the line are known from how a text was made, the
-second program is held to them. A run in which some refusal, some bad, missing or unended line, some length at the limit, some degree and depth, some
-mark at some level, some kind of sheet by its weight, or some content of some kind of place never came up fails, too, and so does one whose texts do
-not tell some wrong rule for the weight from the right one, by their numbers (tests/weights.py).
+The program target/bin/compare_texts is run once, on all texts of tests/text_cases.py and tests/fault_cases.py, each with a place for the call
+`answer`, of tests/text_places.py: first each text with a place that has the room, of which what is written is shown, up to 600 entries after it, and the
+last ones; then texts of every answer, and the one with the longest listing, with places of every length and content, of which all is shown. It answers
+for each 54 words of 8 bytes, all little-endian: the number, the line, the field, d, X, Y, s, k, the mode and the 45 coefficients; then in one more word
+what `answer` answers, and the entries that are shown. Every answer is compared with that of tests/second_text.py; and where the number, the line and
+the field are known from how a text was made, the second program is held to them.
+
+A run fails, too, in which one of these never came up: some refusal, some bad, missing or unended line, some number at some field of some kind of line,
+some two or three faults at once in one line (tests/fault_cases.py), some length at the limit, some degree and depth, some mark at some level, some kind
+of sheet by its weight, some content of some kind of place. And so does one whose texts do not tell some wrong rule from the right one: for the weight by
+their numbers (tests/weights.py), for the faults of lines by number, line and field (tests/fault_rules.py).
 
 Then target/bin/listing itself is run: on the page's whole case, on input that comes in pieces, that is empty, far too long, or cannot be read, at all
 or after some of it, with an output that cannot be written (tests/streams.py), on a text of each kind, and on those of sheets/, whose stored listings it
@@ -26,6 +29,8 @@ import sys
 
 sys.dont_write_bytecode = True  # nothing is left in the tree
 import devices
+import fault_cases
+import fault_rules
 import second
 import second_text
 import sheets
@@ -35,11 +40,11 @@ import weights
 from case_sheets import EDGE, LEAST31, MOST31
 from program import BUILT, ended, number, written_by
 from streams import fault_of
-from text_cases import CEILING, all_cases
+from text_cases import CEILING
 from second_text import LONGEST, PLACES, ROOM, WHOLE, WHOLE_LISTING
 
-REFUSALS = (1, 3, 4, 5, 6, 10, 11)
-WORDS = 8 + PLACES + 1
+REFUSALS = (1, 3, 4, 5, 6, 11, *range(14, 21))
+WORDS = 9 + PLACES + 1
 SHOWN = 5
 # the lines of the longest listing: that of a sheet of depth 7 each cell of which is coloured
 LINES = 4 ** 7 + 1
@@ -62,9 +67,9 @@ def answers_in(output, places):
         end = at + 8 * WORDS + place.first + place.last
         if end > len(output):
             sys.exit(f"texts: {len(output)} bytes came, and they end within the answer to text {turn} of {len(places)}")
-        refusal, line, d, X, Y, s, k, mode, *coefficients, length = struct.unpack_from(f"<{WORDS}Q", output, at)
+        refusal, line, field, d, X, Y, s, k, mode, *coefficients, length = struct.unpack_from(f"<{WORDS}Q", output, at)
         sheet = d, number(X, 64), number(Y, 64), s, k, mode, tuple(number(A, 64) for A in coefficients)
-        yield (refusal, line, *sheet), length, output[at + 8 * WORDS:end]
+        yield (refusal, line, field, *sheet), length, output[at + 8 * WORDS:end]
         at = end
     if at != len(output):
         sys.exit(f"texts: the answers to {len(places)} texts have {at} bytes, and {len(output)} bytes came")
@@ -126,9 +131,9 @@ def disagreements(items, answers):
 
 def misjudged(cases, told):
     """The same for each text of which the second program does not answer what follows from how it was made."""
-    return [f"{case.kind}, which gives {case.number} at line {case.line}: the second program answers {answer[:2]} on {shown(case.text)}"
-            for case, (answer, _) in zip(cases, told)
-            if case.number not in (None, answer[0]) or case.line not in (None, answer[1])]
+    known = [(case.number, case.line, case.field) for case in cases]
+    return [f"{case.kind}, which gives {known}, number, line and field: the second program answers {answer[:3]} on {shown(case.text)}"
+            for case, known, (answer, _) in zip(cases, known, told) if any(one not in (None, other) for one, other in zip(known, answer))]
 
 
 def described(text, refusal):
@@ -141,15 +146,14 @@ def described(text, refusal):
 
 def met(text, answer, written):
     """The things that a text shows, of those that every run must show."""
-    refusal, line, d, X, Y, s, k, mode, coefficients = answer
+    refusal, line, field, d, X, Y, s, k, mode, coefficients = answer
     yield ("refused by", refusal) if refusal else ("accepted",)
     yield from (("a sheet", kind) for kind in weights.kinds_of(described(text, refusal), refusal))
-    yield "length", len(text), refusal
-    if refusal == 10:
+    yield "length", len(text), "refused by 11" if refusal == 11 else "with a bad line" if line else "with good lines"
+    if line:
         yield "bad line", line
-        whole = text.count(b"\n")
-        if line == whole + 1:
-            yield "missing line" if text[-1:] in (b"", b"\n") else "unended line", line
+        if (refusal, field) in ((14, 0), (20, 0)):
+            yield "missing line" if refusal == 14 else "unended line", line
     if refusal == 0:
         yield "degree and depth", d, k
         yield "mode", mode
@@ -185,7 +189,8 @@ def wanted():
     yield from (("bad line", line) for line in range(1, 87))
     yield from (("missing line", line) for line in range(1, 5))
     yield from (("unended line", line) for line in range(1, 8))
-    yield from (("length", length, 10 if length <= LONGEST else 11) for length in (0, 1, LONGEST - 1, LONGEST, LONGEST + 1, 65_536, CEILING))
+    yield from (("length", length, "with a bad line") for length in (0, 1, LONGEST - 1, LONGEST))
+    yield from (("length", length, "refused by 11") for length in (LONGEST + 1, 65_536, CEILING))
     yield from (("degree and depth", d, k) for d in range(9) for k in range(8))
     yield from (("terms named", count, "of degree", d) for d in range(9) for count in (0, (d + 1) * (d + 2) // 2))
     yield from (("mode", mode) for mode in (0, 1))
@@ -196,13 +201,21 @@ def wanted():
 
 
 def tally(cases, told, items):
-    """Prints how often each refusal and each kind of sheet came up, and answers what never did."""
+    """Prints how often each refusal, each fault of a line and each kind of sheet came up, and answers what never did."""
     found = collections.Counter(thing for case, both in zip(cases, told) for thing in met(case.text, *both))
     found.update(thing for item in items for thing in met_of_place(item))
     print(f"read: {found['accepted',]} accepted, refused by " + ", ".join(f"{refusal}: {found['refused by', refusal]}" for refusal in REFUSALS))
     for kind in weights.every_kind():
         print(f"a sheet {kind}: {found['a sheet', kind]} texts")
-    return [" ".join(map(str, thing)) for thing in wanted() if not found[thing]]
+    missing = [" ".join(map(str, thing)) for thing in wanted() if not found[thing]]
+    return missing + list(fault_cases.tally(cases, [answer[:3] for answer, _ in told]))
+
+
+def untold_by(cases, told):
+    """The wrong rules that the texts do not tell from the right ones; and faults at fields where they cannot stand."""
+    yield from weights.untold("read", [(described(case.text, answer[0]), answer[0]) for case, (answer, _) in zip(cases, told)])
+    yield from fault_rules.untold([(case.text, fault_rules.of_lines(*answer[:3])) for case, (answer, _) in zip(cases, told)])
+    yield from fault_cases.impossible(answer[:3] for answer, _ in told if answer[0] >= 14)
 
 
 # ---- the listing program
@@ -235,7 +248,7 @@ def main():
     options.add_argument("--listing", type=pathlib.Path, default=BUILT / "listing")
     devices.add_option(options)
     chosen = options.parse_args()
-    cases = all_cases(chosen.seed, chosen.cases)
+    cases = fault_cases.every_text(chosen.seed, chosen.cases)
     told = [second_told(case.text) for case in cases]
     items = list(lent(random.Random(f"{chosen.seed} places"), cases, told))
     if chosen.only is not None:
@@ -246,7 +259,7 @@ def main():
     missing, untold, runs, faults = [], [], [], []
     if chosen.only is None:
         missing, faults = tally(cases, told, items), list(sheets.faults())
-        untold = list(weights.untold("read", [(described(case.text, answer[0]), answer[0]) for case, (answer, _) in zip(cases, told)]))
+        untold = list(untold_by(cases, told))
         if written_by(chosen.program, text_places.MADE) != bytes(ROOM):
             faults.append(f"reply::place makes other than {ROOM} zeros")
         if not chosen.listing.is_file():

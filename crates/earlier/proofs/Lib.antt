@@ -1,2 +1,4 @@
 pub mod WeightStays
 pub mod Samples
+pub mod BadLineStays
+pub mod TenSamples

@@ -19,7 +19,8 @@ use Rattle.page.specs.LocalForm.{G}
 use Rattle.page.specs.Bounds.{lower, upper, bend}
 use Rattle.page.specs.Weight.{weight}
 use Rattle.page.specs.Refusals.{table, first, to-check, to-walk}
-use Rattle.page.specs.SheetText.{lines, fields, all-digits, amount, terms-from, text-of, in-order, refused}
+use Rattle.page.specs.SheetLine.{lines, fields, all-digits, amount, line-numbers}
+use Rattle.page.specs.SheetText.{term-numbers, terms-from, text-of, in-order, refused}
 use Rattle.page.specs.ListingText.{digits-within, decimal, refused-line}
 use Rattle.page.specs.CheckedSheets.{P4, P9, far-along-y}
 use Rattle.probe.specs.declared.Valued.the-variants as Valued
@@ -58,17 +59,17 @@ answers : (old-valued P9 (pos 2) (pos 0) ≡ Valued.At (pos 4)) × (old-bounded 
 unfolding pow one sum sumℕ largest run span _⋯_ choose minℤ maxℤ row-start judged F G lower upper bend old-weight colour visited coloured largest-bend walking-order those records table first
 answers = (refl, refl, refl, refl)
 
-places : (old-rastered P4 0 (9 ∷ 8 ∷ 7 ∷ 6 ∷ 5 ∷ []) ≡ 1 ∷ 1 ∷ 1 ∷ 1 ∷ 5 ∷ []) × (old-recorded P4 0 (9 ∷ 8 ∷ 7 ∷ 6 ∷ 5 ∷ []) ≡ 65_537 ∷ 65_541 ∷ 66_049 ∷ 66_053 ∷ 5 ∷ []) × (old-outcome [] ≡ refused 10 1)
+places : (old-rastered P4 0 (9 ∷ 8 ∷ 7 ∷ 6 ∷ 5 ∷ []) ≡ 1 ∷ 1 ∷ 1 ∷ 1 ∷ 5 ∷ []) × (old-recorded P4 0 (9 ∷ 8 ∷ 7 ∷ 6 ∷ 5 ∷ []) ≡ 65_537 ∷ 65_541 ∷ 66_049 ∷ 66_053 ∷ 5 ∷ []) × (old-outcome [] ≡ refused 14 1 0)
 unfolding pow one sum sumℕ run span _⋯_ choose minℤ maxℤ row-start judged G lower upper old-weight colour raster visited walking-order those records table first lines text-of
 places = (refl, refl, refl)
 
--- ---- the request's sheet: as a text, of which the old listing was a refusal's line of twelve bytes; and as a sheet
+-- ---- the request's sheet: as a text, of which the listing by the old weight is a refusal's line of fourteen bytes; and as a sheet
 abbrev far-text : List ℕ
 far-text = 68 ∷ 9 ∷ 52 ∷ 10 ∷ 66 ∷ 9 ∷ 48 ∷ 9 ∷ 49 ∷ 48 ∷ 50 ∷ 52 ∷ 9 ∷ 48 ∷ 10 ∷ 75 ∷ 9 ∷ 55 ∷ 10 ∷ 77 ∷ 9 ∷ 48 ∷ 10 ∷ 84 ∷ 9 ∷ 52 ∷ 9 ∷ 48 ∷ 9 ∷ 49 ∷ 10 ∷ []
 
-texts : (old-outcome far-text ≡ refused 6 0) × (old-text far-text ≡ 114 ∷ 101 ∷ 102 ∷ 117 ∷ 115 ∷ 101 ∷ 100 ∷ 9 ∷ 54 ∷ 9 ∷ 48 ∷ 10 ∷ []) × (old-written-length far-text 262_172 ≡ 12)
+texts : (old-outcome far-text ≡ refused 6 0 0) × (old-text far-text ≡ 114 ∷ 101 ∷ 102 ∷ 117 ∷ 115 ∷ 101 ∷ 100 ∷ 9 ∷ 54 ∷ 9 ∷ 48 ∷ 9 ∷ 48 ∷ 10 ∷ []) × (old-written-length far-text 262_172 ≡ 14)
     × (old-written-place far-text (9 ∷ 8 ∷ 7 ∷ []) ≡ 9 ∷ 8 ∷ 7 ∷ [])
-unfolding sumℕ run span _⋯_ row-start old-weight table first lines fields all-digits amount terms-from text-of in-order flatMap digits-within decimal refused-line
+unfolding sumℕ run span _⋯_ row-start old-weight table first lines fields all-digits amount line-numbers term-numbers terms-from text-of in-order flatMap digits-within decimal refused-line
 texts = (refl, refl, refl, refl)
 
 pub refused-for-nothing : RefusedForNothing

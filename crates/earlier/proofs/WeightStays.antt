@@ -15,7 +15,8 @@ use Rattle.forms.proofs.Size.{weight-mono}
 use Rattle.page.specs.Sheet.{Sheet}
 use Rattle.page.specs.Weight.{weight, spare}
 use Rattle.page.specs.Refusals.{Input, Row, _when_, table, first, refusal, unless, to-check, at-point, in-cell, to-walk}
-use Rattle.page.specs.SheetText.{lines, Text, bad-line, well-formed, text-of, to-read, refused, outcome-of, outcome}
+use Rattle.page.specs.SheetLine.{lines}
+use Rattle.page.specs.SheetText.{Text, bad-line, well-formed, text-of, to-read, refused, outcome-of, outcome}
 use Rattle.page.specs.ListingText.{text-after, written-text}
 use Rattle.page.specs.ReadFacts.{number-of}
 use Rattle.page.proofs.Page.{polynomial}
@@ -103,9 +104,9 @@ unfolding listed recorded
 listing-stays S mode before r now h n = (h .0 ∙ unless-stays (to-walk S mode _) n _ _, h .2 ∙ unless-stays (to-walk S mode _) n _ _)
 
 -- ---- texts
-outcome-of-stays : (long : Bool) (t : Text) → (number-of (cond long (refused 11 0) (old-outcome-of t)) ≡ 6 → ⊥) → cond long (refused 11 0) (outcome-of t) ≡ cond long (refused 11 0) (old-outcome-of t)
+outcome-of-stays : (long : Bool) (t : Text) → (number-of (cond long (refused 11 0 0) (old-outcome-of t)) ≡ 6 → ⊥) → cond long (refused 11 0 0) (outcome-of t) ≡ cond long (refused 11 0 0) (old-outcome-of t)
 outcome-of-stays true t n = refl
-outcome-of-stays false (bad-line m) n = refl
+outcome-of-stays false (bad-line m f) n = refl
 outcome-of-stays false (well-formed w) n = unless-stays (to-read w) (λ e. n (unless-number number-of (old-refusal (to-read w)) (λ m. refl) refl refl ∙ e)) _ _
 
 outcome-stays : (text : List ℕ) → (number-of (old-outcome text) ≡ 6 → ⊥) → outcome text ≡ old-outcome text

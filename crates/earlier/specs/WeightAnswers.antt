@@ -10,7 +10,8 @@ use Rattle.page.specs.Sheet.{Sheet, mode-of}
 use Rattle.page.specs.Scaled.{F}
 use Rattle.page.specs.Bounds.{verdict}
 use Rattle.page.specs.Refusals.{to-check, at-point, in-cell, to-walk, unless}
-use Rattle.page.specs.SheetText.{lines, Text, bad-line, well-formed, text-of, to-read, Outcome, refused, accepted}
+use Rattle.page.specs.SheetLine.{lines}
+use Rattle.page.specs.SheetText.{Text, bad-line, well-formed, text-of, to-read, Outcome, refused, accepted}
 use Rattle.page.specs.ListingText.{text-after}
 use Rattle.probe.specs.declared.Checked.{Checked}
 use Rattle.probe.specs.declared.Checked.the-variants as Checked
@@ -53,11 +54,11 @@ old-recorded S mode before = unless (old-refusal (to-walk S mode (length before)
 
 -- ---- reading a text
 abbrev pub old-outcome-of : Text → Outcome
-old-outcome-of (bad-line n) = refused 10 n
-old-outcome-of (well-formed w) = unless (old-refusal (to-read w)) (λ n. refused n 0) (accepted w)
+old-outcome-of (bad-line n f) = refused (f .number) n (f .field)
+old-outcome-of (well-formed w) = unless (old-refusal (to-read w)) (λ n. refused n 0 0) (accepted w)
 
 abbrev pub old-outcome : List ℕ → Outcome
-old-outcome text = cond (ltb 8_192 (length text)) (refused 11 0) (old-outcome-of (text-of (lines text)))
+old-outcome text = cond (ltb 8_192 (length text)) (refused 11 0 0) (old-outcome-of (text-of (lines text)))
 
 -- ---- the listing program's call: the text that it writes, how long it is, and the place afterwards
 abbrev pub old-text : List ℕ → List ℕ

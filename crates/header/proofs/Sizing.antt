@@ -9,7 +9,7 @@ use lib.Dec.{ltb, eqb}
 use lib.ListN.{length, getD, take, drop, length-drop}
 use lib.Seq.{take-suc, getD-drop}
 use Rattle.page.proofs.Amounts.{rest-is}
-use Rattle.page.specs.SheetText.{is-digit, all-digits, is-empty, amount}
+use Rattle.page.specs.SheetLine.{is-digit, all-digits, is-empty, amount}
 use Rattle.pbm.specs.Refusals.{Found, not-plain}
 use Rattle.pbm.specs.Steps.{leading, beyond, size-then}
 use Rattle.pbm.proofs.Sizes.{run-digits}

@@ -5,7 +5,7 @@ use mathlib.Core.List.{List}
 use Prim.Native.Nat.{ℕ, _+_, _*_, _-_, _^_, _≤_, min}
 use lib.Dec.{ltb}
 use lib.ListN.{length, take, drop}
-use Rattle.page.specs.SheetText.{is-digit}
+use Rattle.page.specs.SheetLine.{is-digit}
 use Rattle.pbm.specs.Refusals.{Found, not-plain}
 use Rattle.pbm.specs.Steps.{leading, beyond, after-gap, is-parted, size-then, after-comment, opening-then, found-in, take-bits, found}
 use Rattle.header.specs.declared.Head.{Head}

@@ -5,7 +5,7 @@ ghost use mathlib.Core.Path.{_≡_};
 ghost use mathlib.Core.Bool.{true, false};
 ghost use Prim.Native.Nat.{_+_, _*_, _-_, _^_, _≤_, min};
 ghost use lib.ListN.{length};
-ghost use Rattle.page.specs.SheetText.{is-digit, all-digits, amount};
+ghost use Rattle.page.specs.SheetLine.{is-digit, all-digits, amount};
 ghost use Rattle.header.specs.Steps.{DigitsPassed, SizeTaken};
 
 // 2^63, which no text has bytes for.

@@ -1,177 +1,184 @@
--- The numbers of a line: field by field.
-use mathlib.Core.Path.{_≡_, refl, sym, _∙_, ap}
-use mathlib.Core.Bool.{Bool, true, false, _&&_, cond, and-true, and-false}
-use mathlib.Core.List.{List, [], _∷_, _++_}
-use Prim.Native.Nat.{ℕ, suc, _+_, _-_, _≤_, _<_}
+-- The numbers of a line, field by field, until one is faulty.
+use mathlib.Core.Path.{_≡_, refl, sym, _∙_, ap, ap₂}
+use mathlib.Core.Bool.{Bool, true, false, not, _&&_, cond}
+use mathlib.Core.List.{List, [], _∷_, _++_, map}
+use Prim.Native.Nat.{ℕ, suc, _+_, _≤_, _<_}
 use native.Mathlib.Nat as Nat
 use native.Mathlib.Numerals.{add-one}
 use native.Mathlib.Omega.{arith}
-use borrow.Author.Tests.{ltb-true, ltb-false, lt-ltb, le-ltb, eq-eqb, ne-eqb}
-use lib.Dec.{ltb, eqb}
+use borrow.Author.Tests.{eq-eqb, ne-eqb}
+use lib.Dec.{eqb}
 use lib.IntN.{ℤ, pos}
-use lib.ListN.{length, getD, set, take, drop, length-take, length-set, drop-of-length-le}
-use lib.Seq.{drop-cons, take-suc, take-set-le, lt-length-set, getD-set-same, getD-take}
-use Rattle.page.specs.SheetText.{before-field, fields, is-letter, is-written, is-within, worth, Numbers, bad, good, with-first, numbers, after-letter}
+use lib.ListN.{length, getD, set, take, drop, length-take, length-set, length-map, List·getD-map, drop-of-length-le}
+use lib.Seq.{drop-cons, take-suc, take-suc-set, take-all}
+use Rattle.page.specs.SheetLine.{fields, is-letter, is-written, is-within, worth, fault, Trial, _at-field_when_, number-faults, Numbers, faulty, good, first-fault, line-numbers}
 use Rattle.lines.specs.declared.Number.{Number}
 use Rattle.lines.specs.declared.Number.the-variants as Number
-use Rattle.lines.specs.declared.Field.{Field}
-use Rattle.lines.specs.declared.Field.the-variants as Field
-use Rattle.lines.specs.declared.Numbers as Read
-use Rattle.lines.specs.Steps.{number-in, fields-after, by-field, FieldRead, LineRead, numbers-told, end-of}
-use Rattle.lines.proofs.Parting.{Finds, next-field}
+use Rattle.lines.specs.Steps.{number-in, line-of, unless-fault, well-before, read-in, LineRead, fault-after}
+use Rattle.lines.proofs.Ending.{numbers-in}
 
--- ---- the numbers of a line, by what its next field holds
-abbrev pub by-number : Number → List Bool → List (List ℕ) → Numbers
-by-number (Number.Whole z) ns fs = with-first z (numbers ns fs)
-by-number Number.Outside ns fs = bad
-by-number Number.Malformed ns fs = bad
+-- ---- what a field holds, as the number of its fault, 0 where it has none
+abbrev pub fault-of : Number → ℕ
+fault-of (Number.Whole z) = 0
+fault-of Number.Outside = 17
+fault-of Number.Malformed = 16
 
-number-told : (w i : Bool) (z : ℤ) (ns : List Bool) (fs : List (List ℕ))
-    → cond (w && i) (with-first z (numbers ns fs)) bad ≡ by-number (cond w (cond i (Number.Whole z) Number.Outside) Number.Malformed) ns fs
-number-told true true z ns fs = refl
-number-told true false z ns fs = refl
-number-told false i z ns fs = refl
+-- it decides what comes of the fields from the n-th on, how many of them read well, and the first one's number
+module _ (negative : Bool) (f : List ℕ) where
+  first-told : (n : ℕ) (ns : List Bool) (fs : List (List ℕ)) (more : List Trial) (zs : List ℤ)
+      → first-fault (number-faults n (negative ∷ ns) (f ∷ fs) ++ more) zs ≡ unless-fault (fault-of (number-in negative f)) n (first-fault (number-faults (n + 1) ns fs ++ more) zs)
+  unfolding number-in
+  first-told n ns fs more zs = by (is-written f) (is-within negative (worth f)) (first-fault (number-faults (n + 1) ns fs ++ more) zs)
+    where
+      by : (w i : Bool) (rest : Numbers)
+          → cond (not w) (faulty (fault 16 n)) (cond (not i) (faulty (fault 17 n)) rest) ≡ unless-fault (fault-of (cond w (cond i (Number.Whole (worth f)) Number.Outside) Number.Malformed)) n rest
+      by true true rest = refl
+      by true false rest = refl
+      by false i rest = refl
 
-pub first-number : (negative : Bool) (f : List ℕ) (ns : List Bool) (fs : List (List ℕ)) → numbers (negative ∷ ns) (f ∷ fs) ≡ by-number (number-in negative f) ns fs
-unfolding number-in
-first-number negative f ns fs = number-told (is-written f) (is-within negative (worth f)) (worth f) ns fs
+  first-well : (ns : List Bool) (fs : List (List ℕ)) → well-before (negative ∷ ns) (f ∷ fs) ≡ cond (eqb (fault-of (number-in negative f)) 0) (suc (well-before ns fs)) 0
+  unfolding number-in
+  first-well ns fs = by (is-written f) (is-within negative (worth f)) (well-before ns fs)
+    where
+      by : (w i : Bool) (k : ℕ) → cond (w && i) (suc k) 0 ≡ cond (eqb (fault-of (cond w (cond i (Number.Whole (worth f)) Number.Outside) Number.Malformed)) 0) (suc k) 0
+      by true true k = refl
+      by true false k = refl
+      by false i k = refl
 
-abbrev pub field-of : Number → ℕ → Field
-field-of (Number.Whole z) end = Field.Whole z end
-field-of Number.Outside end = Field.Fault
-field-of Number.Malformed end = Field.Fault
+  first-worth : (z : ℤ) → Number.Whole z ≡ number-in negative f → z ≡ worth f
+  unfolding number-in
+  first-worth z e = by (is-written f) (is-within negative (worth f)) e
+    where
+      by : (w i : Bool) → Number.Whole z ≡ cond w (cond i (Number.Whole (worth f)) Number.Outside) Number.Malformed → z ≡ worth f
+      by true true e = cc
+      by true false e = cc
+      by false i e = cc
 
-by-field-of : (n : Number) (line : List ℕ) (end : ℕ) (ns : List Bool) → by-number n ns (fields-after line end) ≡ by-field line ns (field-of n end)
-by-field-of (Number.Whole z) line end ns = refl
-by-field-of Number.Outside line end ns = refl
-by-field-of Number.Malformed line end ns = refl
+-- ---- the first i numbers read well, and these are their worths
+pub record Reading (ns : List Bool) (fs : List (List ℕ)) (values : List ℤ) (i : ℕ) : Type 0 where
+  pub some : i ≤ length ns
+  pub same : length fs ≡ length ns
+  pub long : length values ≡ 3
+  pub told : (more : List Trial) (zs : List ℤ) → first-fault (number-faults 2 ns fs ++ more) zs ≡ first-fault (number-faults (i + 2) (drop i ns) (drop i fs) ++ more) zs
+  pub well : well-before ns fs ≡ i + well-before (drop i ns) (drop i fs)
+  pub are : take i values ≡ take i (map worth fs)
 
-field-ends : (n : Number) (end m : ℕ) → end ≤ m → end-of (field-of n end) ≤ m
-field-ends (Number.Whole z) end m h = h
-field-ends Number.Outside end m h = omega arith
-field-ends Number.Malformed end m h = omega arith
+-- the i-th of a list, and what comes after it
+next-one : {A : Type 0} (l : List A) (i : ℕ) (d : A) → i < length l → drop i l ≡ getD l i d ∷ drop (i + 1) l
+next-one l i d h = rw add-one (drop-cons l i d h)
 
-module _ (line : List ℕ) (at : ℕ) (negative : Bool) where
-  pub no-field : at ≡ length line → FieldRead line at negative Field.Fault
-  no-field e = record { step = λ ns. let n : ltb at (length line) ≡ false = le-ltb at (length line) (omega arith) in rw n; within = omega arith }
+-- the worths of the first i fields, and the next one
+worth-more : (fs : List (List ℕ)) (i : ℕ) → i < length fs → take (i + 1) (map worth fs) ≡ take i (map worth fs) ++ (worth (getD fs i []) ∷ [])
+worth-more fs i h =
+    let g : i < length (map worth fs) = omega (arith, length-map fs worth) in
+    rw (add-one i) (take-suc (map worth fs) i (worth []) g ∙ ap (λ z. take i (map worth fs) ++ (z ∷ [])) (List·getD-map worth fs i []))
 
-  pub field-read : {end : ℕ} → at < length line → Finds 9 line (at + 1) end → {n : Number} → n ≡ number-in negative (take (end - (at + 1)) (drop (at + 1) line)) → FieldRead line at negative (field-of n end)
-  field-read {end} h f {n} e =
-      let g : ltb at (length line) ≡ true = lt-ltb at (length line) h in
-      record {
-        step = λ ns.
-            rw (g, next-field line (at + 1) end f)
-            (first-number negative (take (end - (at + 1)) (drop (at + 1) line)) ns (fields-after line end) ∙ ap (λ m. by-number m ns (fields-after line end)) (sym e) ∙ by-field-of n line end ns);
-        within = field-ends n end (length line) (f .within);
+module _ (ns : List Bool) (fs : List (List ℕ)) where
+  pub reading-start : length fs ≡ length ns → Reading ns fs (pos 0 ∷ pos 0 ∷ pos 0 ∷ []) 0
+  reading-start e = record { some = omega arith; same = e; long = refl; told = λ more zs. refl; well = sym (Nat.zero-add (well-before ns fs)); are = refl }
+
+  module _ {values : List ℤ} {i : ℕ} (k : Reading ns fs values i) where
+    -- the next field, by the number p of its fault
+    module _ (h : i < length ns) {p : ℕ} (e : fault-of (number-in (getD ns i false) (getD fs i [])) ≡ p) where
+      told-next : (more : List Trial) (zs : List ℤ)
+          → first-fault (number-faults 2 ns fs ++ more) zs ≡ unless-fault p (i + 2) (first-fault (number-faults (i + 1 + 2) (drop (i + 1) ns) (drop (i + 1) fs) ++ more) zs)
+      told-next more zs =
+          let s : i + 2 + 1 ≡ i + 1 + 2 = omega arith in
+          k .told more zs
+          ∙ ap₂ (λ ss gs. first-fault (number-faults (i + 2) ss gs ++ more) zs) (next-one ns i false h) (next-one fs i [] (omega (arith, k .same)))
+          ∙ first-told (getD ns i false) (getD fs i []) (i + 2) (drop (i + 1) ns) (drop (i + 1) fs) more zs
+          ∙ ap₂ (λ q m. unless-fault q (i + 2) (first-fault (number-faults m (drop (i + 1) ns) (drop (i + 1) fs) ++ more) zs)) e s
+
+      well-next : well-before ns fs ≡ i + cond (eqb p 0) (suc (well-before (drop (i + 1) ns) (drop (i + 1) fs))) 0
+      well-next =
+          k .well ∙ ap₂ (λ ss gs. i + well-before ss gs) (next-one ns i false h) (next-one fs i [] (omega (arith, k .same)))
+          ∙ ap (λ m. i + m) (first-well (getD ns i false) (getD fs i []) (drop (i + 1) ns) (drop (i + 1) fs))
+          ∙ ap (λ q. i + cond (eqb q 0) (suc (well-before (drop (i + 1) ns) (drop (i + 1) fs))) 0) e
+
+      -- it is faulty: then nothing after it matters
+      told-fault : (p ≡ 0 → ⊥) → (more : List Trial) (zs : List ℤ) (other : Numbers) → first-fault (number-faults 2 ns fs ++ more) zs ≡ unless-fault p (i + 2) other
+      told-fault z more zs other = told-next more zs ∙ rw (ne-eqb p 0 z)
+
+      well-fault : (p ≡ 0 → ⊥) → well-before ns fs ≡ i
+      well-fault z = well-next ∙ ap (λ b. i + cond b (suc (well-before (drop (i + 1) ns) (drop (i + 1) fs))) 0) (ne-eqb p 0 z) ∙ Nat.add-zero i
+
+    -- it is a number
+    pub reading-next : i < length ns → {z : ℤ} → number-in (getD ns i false) (getD fs i []) ≡ Number.Whole z → i < 3 → Reading ns fs (set values i z) (i + 1)
+    reading-next h {z} e l =
+        let f = ap fault-of e in
+        record {
+          some = omega arith;
+          same = k .same;
+          long = length-set values i z ∙ k .long;
+          told = told-next h f;
+          well = well-next h f ∙ omega arith;
+          are =
+              let w = first-worth (getD ns i false) (getD fs i []) z (sym e) in
+              ap (λ m. take m (set values i z)) (add-one i) ∙ take-suc-set values i z (omega (arith, k .long)) ∙ ap₂ (λ zs y. zs ++ (y ∷ [])) (k .are) w
+              ∙ sym (worth-more fs i (omega (arith, k .same)));
+        }
+
+    -- all of them are read
+    module _ (e : i ≡ length ns) where
+      none-left : drop i ns ≡ []
+      none-left = drop-of-length-le ns {i = i} (omega arith)
+
+      told-end : (more : List Trial) (zs : List ℤ) → first-fault (number-faults 2 ns fs ++ more) zs ≡ first-fault more zs
+      told-end more zs = k .told more zs ∙ ap (λ ss. first-fault (number-faults (i + 2) ss (drop i fs) ++ more) zs) none-left
+
+      well-end : well-before ns fs ≡ i
+      well-end = k .well ∙ ap (λ ss. i + well-before ss (drop i fs)) none-left ∙ omega arith
+
+      are-end : take i values ≡ map worth fs
+      are-end = k .are ∙ take-all i (map worth fs) (omega (arith, length-map fs worth, k .same))
+
+-- ---- a line: its letter, the count of its numbers, and these
+module _ (line : List ℕ) (letter n : ℕ) (signs : List Bool) where
+  -- another letter
+  pub other-letter : is-letter letter (getD (fields line) 0 []) ≡ false → {values : List ℤ} → length values ≡ 3 → LineRead line letter n signs (record { fault = 14; field = 1; read = 0; values = values })
+  unfolding line-numbers read-in
+  other-letter e l = record { told = λ ended. rw e; read = λ ended. rw e; values = λ ended. refl; three = l }
+
+  module _ (b : is-letter letter (getD (fields line) 0 []) ≡ true) where
+    -- another count
+    pub other-count : (length (numbers-in line) ≡ length (take n signs) → ⊥) → {values : List ℤ} → length values ≡ 3 → LineRead line letter n signs (record { fault = 15; field = 0; read = 0; values = values })
+    unfolding line-numbers read-in
+    other-count e l =
+        let q = ne-eqb (length (numbers-in line)) (length (take n signs)) e in
+        record { told = λ ended. rw (b, q); read = λ ended. rw (b, q); values = λ ended. refl; three = l }
+
+    module _ {values : List ℤ} {i : ℕ} (k : Reading (take n signs) (numbers-in line) values i) where
+      told-on : (ended : Bool) → line-numbers letter (take n signs) (line-of line ended)
+          ≡ first-fault (number-faults 2 (take n signs) (numbers-in line) ++ ((20 at-field 0 when not ended) ∷ [])) (map worth (numbers-in line))
+      unfolding line-numbers
+      told-on ended = rw (b, eq-eqb (length (numbers-in line)) (length (take n signs)) (k .same))
+
+      read-on : (ended : Bool) → read-in letter (take n signs) (line-of line ended) ≡ well-before (take n signs) (numbers-in line)
+      unfolding read-in
+      read-on ended = rw (b, eq-eqb (length (numbers-in line)) (length (take n signs)) (k .same))
+
+      -- the next number is faulty
+      pub line-fault : i < length (take n signs) → {p : ℕ} → fault-of (number-in (getD (take n signs) i false) (getD (numbers-in line) i [])) ≡ p → (p ≡ 0 → ⊥) → LineRead line letter n signs (fault-after p i values)
+      line-fault h {p} e z = record {
+        told = λ ended. told-on ended ∙ told-fault (take n signs) (numbers-in line) k h e z _ _ _;
+        read = λ ended. sym (read-on ended ∙ well-fault (take n signs) (numbers-in line) k h e z);
+        values = λ ended. k .are;
+        three = k .long;
       }
 
--- the numbers read so far, and those of the fields that are left
-abbrev pub with-all : List ℤ → Numbers → Numbers
-with-all [] ns = ns
-with-all (z ∷ zs) ns = with-first z (with-all zs ns)
-
-with-all-bad : (zs : List ℤ) → with-all zs bad ≡ bad
-with-all-bad [] = refl
-with-all-bad (z ∷ zs) = ap (with-first z) (with-all-bad zs)
-
-with-all-one : (zs : List ℤ) (z : ℤ) (ns : Numbers) → with-all zs (with-first z ns) ≡ with-all (zs ++ (z ∷ [])) ns
-with-all-one [] z ns = refl
-with-all-one (y ∷ zs) z ns = ap (with-first y) (with-all-one zs z ns)
-
-with-all-good : (zs : List ℤ) → with-all zs (good []) ≡ good zs
-with-all-good [] = refl
-with-all-good (z ∷ zs) = ap (with-first z) (with-all-good zs)
-
--- no number is asked for, and there is a field
-too-many : (l : List ℕ) → numbers [] (fields l) ≡ bad
-unfolding fields
-too-many [] = refl
-too-many (x ∷ l) = by (eqb x 9) (fields l)
-  where
-    by : (b : Bool) (fs : List (List ℕ)) → numbers [] (cond b ([] ∷ fs) (before-field x fs)) ≡ bad
-    by true fs = refl
-    by false [] = refl
-    by false (f ∷ fs) = refl
-
-none-left : (l : List ℕ) (at : ℕ) → at ≤ length l → (zs : List ℤ) → with-all zs (numbers [] (fields-after l at)) ≡ cond (eqb at (length l)) (good zs) bad
-none-left l at h zs = by (ltb at (length l)) refl
-  where
-    by : (b : Bool) → ltb at (length l) ≡ b → with-all zs (numbers [] (fields-after l at)) ≡ cond (eqb at (length l)) (good zs) bad
-    by true e =
-        let g = ltb-true at (length l) e in let n : eqb at (length l) ≡ false = ne-eqb at (length l) (λ q. omega arith) in
-        rw (e, n) (ap (with-all zs) (too-many (drop (at + 1) l)) ∙ with-all-bad zs)
-    by false e =
-        let g = ltb-false at (length l) e in let n : eqb at (length l) ≡ true = eq-eqb at (length l) (omega arith) in
-        rw (e, n) (with-all-good zs)
-
-one-more : (values : List ℤ) (i : ℕ) (z : ℤ) → i < length values → take (i + 1) (set values i z) ≡ take i values ++ (z ∷ [])
-one-more values i z h =
-    let g : i < length (set values i z) = lt-length-set values i z h in
-    ap (λ m. take m (set values i z)) (add-one i) ∙ take-suc (set values i z) i z g ∙ rw (take-set-le i values i z (Nat.le-refl i), getD-set-same values i z z h)
-
--- a line that is bad
-pub bad-read : {l : List ℕ} {letter n : ℕ} {signs : List Bool} {r : Read.Numbers} → after-letter letter (take n signs) (fields l) ≡ bad → (r .good ≡ false) × (length (r .values) ≡ 3) → LineRead l letter n signs r
-bad-read {r = r} e (g, h) = record { read = e ∙ rw g; three = h }
-
--- ---- the loop over the fields
-pub record Counting (l : List ℕ) (letter n : ℕ) (signs : List Bool) (at : ℕ) (values : List ℤ) (i : ℕ) : Type 0 where
-  pub some : i ≤ n
-  pub within : at ≤ length l
-  pub long : length values ≡ 3
-  pub told : after-letter letter (take n signs) (fields l) ≡ with-all (take i values) (numbers (drop i (take n signs)) (fields-after l at))
-
-module _ (l : List ℕ) (letter n : ℕ) (signs : List Bool) where
-  -- the first field
-  by-letter : (at : ℕ) → Finds 9 l 0 at → after-letter letter (take n signs) (fields l) ≡ cond (is-letter letter (take at l)) (numbers (take n signs) (fields-after l at)) bad
-  by-letter at f = let s : at - 0 ≡ at = omega arith in ap (after-letter letter (take n signs)) (next-field l 0 at f) ∙ ap (λ m. cond (is-letter letter (take m l)) (numbers (take n signs) (fields-after l at)) bad) s
-
-  pub other-letter : {at : ℕ} → Finds 9 l 0 at → {r : Bool} → r ≡ is-letter letter (take at l) → r ≡ false → after-letter letter (take n signs) (fields l) ≡ bad
-  other-letter {at} f e h = let g : is-letter letter (take at l) ≡ false = sym e ∙ h in by-letter at f ∙ rw g
-
-  pub counting-start : {at : ℕ} → Finds 9 l 0 at → {r : Bool} → r ≡ is-letter letter (take at l) → r ≡ true → Counting l letter n signs at (pos 0 ∷ pos 0 ∷ pos 0 ∷ []) 0
-  counting-start {at} f e h = record {
-    some = omega arith;
-    within = f .within;
-    long = refl;
-    told = let g : is-letter letter (take at l) ≡ true = sym e ∙ h in by-letter at f ∙ rw g;
-  }
-
-  module _ (at : ℕ) (values : List ℤ) (i : ℕ) (k : Counting l letter n signs at values i) where
-    -- a field that is none, or holds no number
-    pub counting-fault : (b : Bool) → drop i (take n signs) ≡ b ∷ drop (i + 1) (take n signs) → FieldRead l at b Field.Fault → after-letter letter (take n signs) (fields l) ≡ bad
-    counting-fault b e r = k .told ∙ ap (λ ns. with-all (take i values) (numbers ns (fields-after l at))) e ∙ ap (with-all (take i values)) (r .step (drop (i + 1) (take n signs))) ∙ with-all-bad (take i values)
-
-    -- a number
-    pub counting-next : (b : Bool) → drop i (take n signs) ≡ b ∷ drop (i + 1) (take n signs) → (z : ℤ) (end : ℕ) → FieldRead l at b (Field.Whole z end) → i < n → i < 3 → Counting l letter n signs end (set values i z) (i + 1)
-    counting-next b e z end r h m = record {
-      some = omega arith;
-      within = r .within;
-      long = length-set values i z ∙ k .long;
-      told =
-          k .told ∙ ap (λ ns. with-all (take i values) (numbers ns (fields-after l at))) e ∙ ap (with-all (take i values)) (r .step (drop (i + 1) (take n signs)))
-          ∙ with-all-one (take i values) z (numbers (drop (i + 1) (take n signs)) (fields-after l end))
-          ∙ ap (λ zs. with-all zs (numbers (drop (i + 1) (take n signs)) (fields-after l end))) (sym (one-more values i z (omega (arith, k .long))));
-    }
-
-    -- no field is left
-    pub counting-end : i ≡ n → after-letter letter (take n signs) (fields l) ≡ numbers-told n (eqb at (length l)) values
-    counting-end e =
-        let m : length (take n signs) ≤ i = omega (arith, length-take n signs) in let d : drop i (take n signs) ≡ [] = drop-of-length-le (take n signs) m in
-        k .told ∙ ap (λ ns. with-all (take i values) (numbers ns (fields-after l at))) d ∙ none-left l at (k .within) (take i values) ∙ ap (λ m. numbers-told m (eqb at (length l)) values) e
-
--- ---- a letter alone
-pub not-alone : (letter : ℕ) (f : List ℕ) → (length f ≡ 1 → ⊥) → false ≡ is-letter letter f
-not-alone letter [] h = refl
-not-alone letter (b ∷ []) h = absurd (h refl)
-not-alone letter (b ∷ d ∷ f) h = sym (and-false (eqb b letter))
-
-pub alone : (letter : ℕ) (f : List ℕ) → length f ≡ 1 → eqb (getD f 0 0) letter ≡ is-letter letter f
-alone letter [] h = absurd (omega arith)
-alone letter (b ∷ []) h = sym (and-true (eqb b letter))
-alone letter (b ∷ d ∷ f) h = absurd (omega arith)
-
--- ---- which sign is next
-pub next-sign : (signs : List Bool) (n i : ℕ) → i < n → n ≤ length signs → drop i (take n signs) ≡ getD signs i false ∷ drop (i + 1) (take n signs)
-next-sign signs n i h l =
-    let m : i < length (take n signs) = omega (arith, length-take n signs) in
-    drop-cons (take n signs) i false m ∙ rw (add-one i) (ap (λ b. b ∷ drop (suc i) (take n signs)) (getD-take n signs i false h))
+      -- all numbers are read
+      pub line-read : n ≤ i → n ≤ length signs → LineRead line letter n signs (record { fault = 0; field = 0; read = n; values = values })
+      line-read g l =
+          let q : i ≡ length (take n signs) = omega (arith, length-take n signs, k .some) in let e : i ≡ n = omega (arith, length-take n signs) in
+          let are : take n values ≡ map worth (numbers-in line) = rw (sym e) (are-end (take n signs) (numbers-in line) k q) in
+          record {
+            told = λ ended. told-on ended ∙ told-end (take n signs) (numbers-in line) k q _ _ ∙ closing ended are;
+            read = λ ended. sym (read-on ended ∙ well-end (take n signs) (numbers-in line) k q ∙ e);
+            values = λ ended. rw (sym e) (k .are);
+            three = k .long;
+          }
+        where
+          closing : (ended : Bool) → take n values ≡ map worth (numbers-in line)
+              → first-fault ((20 at-field 0 when not ended) ∷ []) (map worth (numbers-in line)) ≡ cond ended (good (take n values)) (faulty (fault 20 0))
+          closing true e = ap good (sym e)
+          closing false e = refl

@@ -1,4 +1,5 @@
 pub mod Numerals
 pub mod Parting
+pub mod Ending
 pub mod Counting
 pub mod Taking

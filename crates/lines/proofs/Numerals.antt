@@ -15,7 +15,7 @@ use lib.ListN.{length, getD, take, drop}
 use lib.Seq.{drop-length}
 use lib.Signed.{mag}
 use Rattle.page.proofs.Amounts.{all-step}
-use Rattle.page.specs.SheetText.{is-digit, all-digits, is-empty, is-decimal, amount, is-minus, without-sign, is-within}
+use Rattle.page.specs.SheetLine.{is-digit, all-digits, is-empty, is-decimal, amount, is-minus, without-sign, is-within}
 use Rattle.lines.specs.declared.Number.the-variants as Number
 use Rattle.lines.specs.Steps.{number-in, signless-in, minus-in}
 

@@ -7,12 +7,11 @@ use native.Mathlib.Nat as Nat
 use native.Mathlib.Omega.{arith}
 use borrow.Author.Tests.{ltb-true, ltb-false}
 use lib.Dec.{ltb, eqb}
-use lib.IntN.{ℤ}
-use lib.ListN.{length, take, drop, length-drop}
+use lib.ListN.{length, take, drop, length-drop, drop-of-length-le}
 use lib.Seq.{take-all, take-length, drop-drop}
 use Rattle.bytes.specs.Bytes.{indexOf, indexAfter, slice}
-use Rattle.page.specs.SheetText.{Line, ended-line, before-line, lines, before-field, fields, Text, bad-line, line-then}
-use Rattle.lines.specs.Steps.{fields-after}
+use Rattle.page.specs.SheetLine.{before-line, lines, before-field, fields}
+use Rattle.lines.specs.Steps.{line-of}
 
 -- ---- the place of the first byte c
 index-here : (c x : ℕ) (l : List ℕ) → eqb x c ≡ true → indexOf c (x ∷ l) ≡ 0
@@ -65,23 +64,30 @@ unfolding fields
 field-last [] h = refl
 field-last (x ∷ l) h = uncut 9 fields before-field (λ f. f) (λ f. f) (λ x l. refl) (λ x l ps. refl) (λ x. refl) (λ x l. refl) l x h
 
+-- there is always one
+pub some-field : (l : List ℕ) → 0 < length (fields l)
+unfolding fields
+some-field [] = omega arith
+some-field (x ∷ l) = by (eqb x 9) (fields l)
+  where
+    by : (b : Bool) (fs : List (List ℕ)) → 0 < length (cond b ([] ∷ fs) (before-field x fs))
+    by true fs = omega arith
+    by false [] = omega arith
+    by false (f ∷ fs) = omega arith
+
 -- ---- lines, cut off at LFs
-abbrev unended : List ℕ → Line
-unended l = record { bytes = l; ended = false }
-
-line-cut : (l : List ℕ) → indexOf 10 l < length l → lines l ≡ ended-line (take (indexOf 10 l) l) ∷ lines (drop (indexOf 10 l + 1) l)
+line-cut : (l : List ℕ) → indexOf 10 l < length l → lines l ≡ line-of (take (indexOf 10 l) l) true ∷ lines (drop (indexOf 10 l + 1) l)
 unfolding lines
-line-cut = cut-off 10 lines before-line ended-line unended (λ x l. refl) (λ x l ps. refl) (λ x. refl) (λ x l. refl)
+line-cut = cut-off 10 lines before-line (λ bs. line-of bs true) (λ bs. line-of bs false) (λ x l. refl) (λ x l ps. refl) (λ x. refl) (λ x l. refl)
 
-line-last : (x : ℕ) (l : List ℕ) → length (x ∷ l) ≤ indexOf 10 (x ∷ l) → lines (x ∷ l) ≡ unended (x ∷ l) ∷ []
+line-last : (l : List ℕ) → 0 < length l → length l ≤ indexOf 10 l → lines l ≡ line-of l false ∷ []
 unfolding lines
-line-last x l h = uncut 10 lines before-line ended-line unended (λ x l. refl) (λ x l ps. refl) (λ x. refl) (λ x l. refl) l x h
+line-last [] s h = absurd (omega arith)
+line-last (x ∷ l) s h = uncut 10 lines before-line (λ bs. line-of bs true) (λ bs. line-of bs false) (λ x l. refl) (λ x l ps. refl) (λ x. refl) (λ x l. refl) l x h
 
--- nothing, or an unended line
-none : (number letter : ℕ) (ns : List Bool) (rest : List ℤ → List Line → Text) (l : List ℕ) → length l ≤ indexOf 10 l → line-then number letter ns (lines l) rest ≡ bad-line number
-unfolding lines
-none number letter ns rest [] m = refl
-none number letter ns rest (x ∷ l) m = ap (λ ls. line-then number letter ns ls rest) (line-last x l m)
+-- ---- the fields of a line after the one that ends at a place
+abbrev pub fields-after : List ℕ → ℕ → List (List ℕ)
+fields-after line at = cond (ltb at (length line)) (fields (drop (at + 1) line)) []
 
 -- ---- by where they stand: `find` from a place on
 pub record Finds (c : ℕ) (l : List ℕ) (from end : ℕ) : Type 0 where
@@ -112,13 +118,15 @@ module _ (l : List ℕ) (from end : ℕ) where
           let h = ltb-false end (length l) e in let a = f .at in let n = length-drop from l in let g = f .after in let m : length (drop from l) ≤ indexOf 9 (drop from l) = omega (arith, a, n) in
           rw (e, width 9 f) (field-last (drop from l) m ∙ ap (λ r. r ∷ []) (sym (take-all (indexOf 9 (drop from l)) (drop from l) m)))
 
-  -- the line from there on, and the lines after it; or that there is none, or an unended one
-  pub next-line : Finds 10 l from end → end < length l → lines (drop from l) ≡ ended-line (take (end - from) (drop from l)) ∷ lines (drop (end + 1) l)
-  next-line f h =
-      let a = f .at in let n = length-drop from l in let m : indexOf 10 (drop from l) < length (drop from l) = omega (arith, a, n) in
-      rw (width 10 f) (line-cut (drop from l) m ∙ ap (λ r. ended-line (take (indexOf 10 (drop from l)) (drop from l)) ∷ lines r) (beyond 10 f))
-
-  pub no-line : Finds 10 l from end → end ≡ length l → (number letter : ℕ) (ns : List Bool) (rest : List ℤ → List Line → Text) → line-then number letter ns (lines (drop from l)) rest ≡ bad-line number
-  no-line f h number letter ns rest =
-      let a = f .at in let n = length-drop from l in let m : length (drop from l) ≤ indexOf 10 (drop from l) = omega (arith, a, n) in
-      none number letter ns rest (drop from l) m
+  -- the line from there on, ended where an LF stands there, and the lines after it
+  pub next-line : Finds 10 l from end → from < length l → lines (drop from l) ≡ line-of (take (end - from) (drop from l)) (ltb end (length l)) ∷ lines (drop (end + 1) l)
+  unfolding lines
+  next-line f s = by (ltb end (length l)) refl
+    where
+      by : (b : Bool) → ltb end (length l) ≡ b → lines (drop from l) ≡ line-of (take (end - from) (drop from l)) (ltb end (length l)) ∷ lines (drop (end + 1) l)
+      by true e =
+          let h = ltb-true end (length l) e in let a = f .at in let n = length-drop from l in let m : indexOf 10 (drop from l) < length (drop from l) = omega (arith, a, n) in
+          rw (e, width 10 f) (line-cut (drop from l) m ∙ ap (λ r. line-of (take (indexOf 10 (drop from l)) (drop from l)) true ∷ lines r) (beyond 10 f))
+      by false e =
+          let h = ltb-false end (length l) e in let a = f .at in let n = length-drop from l in let m : length (drop from l) ≤ indexOf 10 (drop from l) = omega (arith, a, n) in
+          rw (e, width 10 f, take-all (indexOf 10 (drop from l)) (drop from l) m, drop-of-length-le l {i = end + 1} (omega arith)) (line-last (drop from l) (omega arith) m)

@@ -3,7 +3,7 @@ use crate::Number;
 ghost use mathlib.Core.Path.{_≡_};
 ghost use mathlib.Core.Bool.{true, cond};
 ghost use Prim.Native.Nat.{_^_, min};
-ghost use Rattle.page.specs.SheetText.{is-digit, is-decimal, is-minus, all-digits, amount};
+ghost use Rattle.page.specs.SheetLine.{is-digit, is-decimal, is-minus, all-digits, amount};
 ghost use Rattle.lines.specs.Steps.{number-in, signless-in, minus-in};
 
 // A byte's number.

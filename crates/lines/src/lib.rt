@@ -1,6 +1,7 @@
-// Lines of a text: a letter in field 1, and a number in each field after it.
+// Lines of a text: a letter in field 1, and a number in each field after it; or the first fault of a line.
 // An inner crate: what its functions require, every caller proves.
 mod digits;
+mod fields;
 mod line;
 
 pub use line::take_line;
@@ -12,21 +13,25 @@ enum Number {
     Malformed,
 }
 
-// A number and where its field ends, or that the field is none or holds none.
-enum Field {
-    Whole { value: i32, end: usize },
-    Fault,
+// How many fields a line has, and where the first four of them end.
+struct Parted {
+    pub count: usize,
+    pub ends: [usize; 4],
 }
 
-// The numbers of a line, zeros after the last; where it is bad, zeros.
+// What a line comes to: the number and the field of its first fault, zeros where it has none; and how many of its numbers were read, and these.
 struct Numbers {
-    pub good: bool,
+    pub fault: u32,
+    pub field: u32,
+    pub read: usize,
     pub values: [i32; 3],
 }
 
-// The numbers of a line of a text, and where the next line begins.
+// The same of a line of a text, and where the next line begins.
 pub struct Taken {
-    pub good: bool,
+    pub fault: u32,
+    pub field: u32,
     pub next: usize,
+    pub read: usize,
     pub values: [i32; 3],
 }

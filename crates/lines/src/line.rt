@@ -1,106 +1,133 @@
-// Lines: the letter in field 1, and a number in each field after it.
-use crate::Field;
+// Lines: the letter in field 1, a number in each field after it, and LF; or what is wrong first.
 use crate::Number;
 use crate::Numbers;
 use crate::Taken;
 use crate::digits::number;
+use crate::fields::letter_alone;
+use crate::fields::part;
 ghost use mathlib.Core.Path.{_≡_};
-ghost use mathlib.Core.Bool.{false};
 ghost use Prim.Native.Nat.{_≤_};
 ghost use lib.ListN.{length};
-ghost use Rattle.page.specs.SheetText.{is-letter};
-ghost use Rattle.lines.specs.Steps.{FieldRead, LineRead, LineTaken};
-
-const TAB: u8 = 9;
+ghost use Rattle.lines.specs.Steps.{fault-after, LineRead, none-at, closed-at, LineTaken};
 
 const LF: u8 = 10;
 
-// Whether a field is the letter alone.
-fn letter_alone(field: &[u8], letter: u8) -> bool
-    ensures { λ r. ⌜ r ≡ is-letter letter (now (field .entry)) ⌝ }
-{
-    if field.len() != 1 {
-        return false;
-    }
-    field[0] == letter
-}
-
-// The number in the field after the one that ends at `at`.
-fn field_after(line: &[u8], at: usize, negative: bool) -> Field
-    requires { ⌜ at ≤ length (now line) ⌝ }
-    ensures { λ r. ⌜ FieldRead (now (line .entry)) at negative r ⌝ }
-{
-    let n = line.len();
-    if at == n {
-        return Field::Fault;
-    }
-    let from = at + 1;
-    let end = bytes::scan::find(line, from, n, TAB);
-    match number(&line[from..end], negative) {
-        Number::Whole(value) => Field::Whole { value, end },
-        Number::Outside => Field::Fault,
-        Number::Malformed => Field::Fault,
-    }
-}
-
-// A bad line, with zeros for its numbers.
-fn bad_line() -> Numbers
-    ensures { λ r. ⌜ (r .good ≡ false) × (length (r .values) ≡ 3) ⌝ }
+// The fault of the field that comes after `read` numbers, which is field read + 2.
+fn field_fault(fault: u32, read: usize, values: [i32; 3]) -> Numbers
+    requires { ⌜ read ≤ 3 ⌝ }
+    ensures { λ r. ⌜ r ≡ fault-after fault read values ⌝ }
 {
     Numbers {
-        good: false,
-        values: [0; 3],
+        fault,
+        field: (read + 2) as u32,
+        read,
+        values,
     }
 }
 
-// The numbers of a line that has to begin with the letter and to hold `count` of them, each negative only where `signs` says so.
+// What a line comes to that has to begin with the letter and to hold `count` numbers, each negative only where `signs` says so.
 fn numbers_of(line: &[u8], letter: u8, count: usize, signs: [bool; 3]) -> Numbers
     requires { ⌜ (count ≤ 3) × (length signs ≡ 3) ⌝ }
     ensures { λ r. ⌜ LineRead (now (line .entry)) letter count signs r ⌝ }
 {
-    let mut at = bytes::scan::find(line, 0, line.len(), TAB);
-    if !letter_alone(&line[..at], letter) {
-        return bad_line();
-    }
+    let parted = part(line);
+    let ends = parted.ends;
     let mut values = [0i32; 3];
+    if !letter_alone(&line[..ends[0]], letter) {
+        return Numbers {
+            fault: 14,
+            field: 1,
+            read: 0,
+            values,
+        };
+    }
+    if parted.count != count + 1 {
+        return Numbers {
+            fault: 15,
+            field: 0,
+            read: 0,
+            values,
+        };
+    }
     let mut i = 0;
     while i < count {
-        let field = field_after(line, at, signs[i]);
-        match field {
-            Field::Whole { value, end } => {
+        match number(&line[ends[i] + 1..ends[i + 1]], signs[i]) {
+            Number::Whole(value) => {
                 values[i] = value;
-                at = end;
             }
-            Field::Fault => {
-                return bad_line();
+            Number::Outside => {
+                return field_fault(17, i, values);
+            }
+            Number::Malformed => {
+                return field_fault(16, i, values);
             }
         }
         i += 1;
     }
     Numbers {
-        good: at == line.len(),
+        fault: 0,
+        field: 0,
+        read: count,
         values,
     }
 }
 
-// The line of a text from `at` on: bad where it is missing, unended, or not of this form.
+// A line that is missing: a letter fault, at field 0.
+fn no_line(at: usize) -> Taken
+    ensures { λ r. ⌜ r ≡ none-at at ⌝ }
+{
+    Taken {
+        fault: 14,
+        field: 0,
+        next: at,
+        read: 0,
+        values: [0; 3],
+    }
+}
+
+// What a line of a text of n bytes comes to, which ends at `end`: where no LF stands there it is unended, which is tried last.
+fn closed(line: Numbers, end: usize, n: usize) -> Taken
+    requires { ⌜ end ≤ n ⌝ }
+    ensures { λ r. ⌜ r ≡ closed-at line end n ⌝ }
+{
+    let values = line.values;
+    if end < n {
+        return Taken {
+            fault: line.fault,
+            field: line.field,
+            next: end + 1,
+            read: line.read,
+            values,
+        };
+    }
+    if line.fault != 0 {
+        return Taken {
+            fault: line.fault,
+            field: line.field,
+            next: end,
+            read: line.read,
+            values,
+        };
+    }
+    Taken {
+        fault: 20,
+        field: 0,
+        next: end,
+        read: line.read,
+        values,
+    }
+}
+
+// The line of a text from `at` on: missing, or its first fault, or its numbers.
 pub fn take_line(text: &[u8], at: usize, letter: u8, count: usize, signs: [bool; 3]) -> Taken
     requires { ⌜ (at ≤ length (now text)) × (count ≤ 3) × (length signs ≡ 3) ⌝ }
     ensures { λ r. ⌜ LineTaken (now (text .entry)) at letter count signs r ⌝ }
 {
-    let end = bytes::scan::find(text, at, text.len(), LF);
-    if end == text.len() {
-        return Taken {
-            good: false,
-            next: at,
-            values: [0; 3],
-        };
+    let n = text.len();
+    if at == n {
+        return no_line(at);
     }
-    let numbers = numbers_of(&text[at..end], letter, count, signs);
-    let values = numbers.values;
-    Taken {
-        good: numbers.good,
-        next: end + 1,
-        values,
-    }
+    let end = bytes::scan::find(text, at, n, LF);
+    let line = numbers_of(&text[at..end], letter, count, signs);
+    closed(line, end, n)
 }

@@ -11,7 +11,7 @@ use lib.Dec.{leb}
 use lib.ListN.{length, getD, drop}
 use lib.Seq.{drop-cons, drop-length}
 use Rattle.algebra.proofs.Choice.{and-left, and-right}
-use Rattle.page.specs.SheetText.{is-digit, all-digits, amount}
+use Rattle.page.specs.SheetLine.{is-digit, all-digits, amount}
 
 -- ---- one byte more
 pub rest-is : (l : List ℕ) (i : ℕ) → i < length l → drop i l ≡ getD l i 0 ∷ drop (i + 1) l

@@ -12,7 +12,7 @@ use lib.IntN.{ℤ, pos, negsuc, negℤ}
 use lib.ListN.{length, length-append}
 use borrow.Author.Tests.{leb-true, lt-ltb, le-ltb, le-leb, eq-eqb, ne-eqb, eqb-true, eqb-false, not-true}
 use Rattle.algebra.proofs.Choice.{and-left, and-right, and-both}
-use Rattle.page.specs.SheetText.{is-digit, all-digits, is-empty, is-decimal, amount, is-written, worth}
+use Rattle.page.specs.SheetLine.{is-digit, all-digits, is-empty, is-decimal, amount, is-written, worth}
 use Rattle.page.specs.ListingText.{digits-within, decimal}
 use Rattle.page.specs.DecimalFacts.{DecimalReads, DecimalOnly, WrittenOnce}
 

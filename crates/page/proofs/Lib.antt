@@ -9,12 +9,16 @@ pub mod Raster
 pub mod Cover
 pub mod Label
 pub mod Facts
+pub mod LineFaults
+pub mod TextWalk
 pub mod ReadFacts
-pub mod TextHeads
+pub mod TextFaults
+pub mod TermLines
 pub mod AnyOrder
 pub mod Edges
 pub mod Decimals
 pub mod Amounts
 pub mod Samples
 pub mod TextSamples
+pub mod FaultSamples
 pub mod TextTerms

@@ -3,7 +3,7 @@ use mathlib.Core.Path.{_≡_}
 use mathlib.Core.Bool.{true}
 use mathlib.Core.List.{List}
 use Prim.Native.Nat.{ℕ}
-use Rattle.page.specs.SheetText.{is-decimal, amount, is-written, worth}
+use Rattle.page.specs.SheetLine.{is-decimal, amount, is-written, worth}
 use Rattle.page.specs.ListingText.{decimal}
 
 -- a number that is written is well written, and is read back

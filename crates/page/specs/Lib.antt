@@ -6,12 +6,14 @@ pub mod LocalForm
 pub mod Bounds
 pub mod Weight
 pub mod Refusals
+pub mod SheetLine
 pub mod SheetText
 pub mod ListingText
 pub mod CheckedSheets
 pub mod DecimalFacts
 pub mod Facts
 pub mod ReadFacts
+pub mod FaultFacts
 pub mod Demand3
 pub mod Raster
 pub mod Cover

@@ -37,9 +37,9 @@ cell-line v c = record-line (colour-of (v (c .level) (c .column) (c .row) ∷ []
 unfoldable pub total-line : ℕ → ℕ → List ℕ
 total-line visited coloured = line-text ((116 ∷ 111 ∷ 116 ∷ 97 ∷ 108 ∷ []) ∷ decimal visited ∷ decimal coloured ∷ [])
 
--- a refusal is the single line `refused`, number, line (0 where no line is meant)
-unfoldable pub refused-line : ℕ → ℕ → List ℕ
-refused-line number line = line-text ((114 ∷ 101 ∷ 102 ∷ 117 ∷ 115 ∷ 101 ∷ 100 ∷ []) ∷ decimal number ∷ decimal line ∷ [])
+-- a refusal is the single line `refused`, number, line, field (0 where no line or no field is meant)
+unfoldable pub refused-line : ℕ → ℕ → ℕ → List ℕ
+refused-line number line field = line-text ((114 ∷ 101 ∷ 102 ∷ 117 ∷ 115 ∷ 101 ∷ 100 ∷ []) ∷ decimal number ∷ decimal line ∷ decimal field ∷ [])
 
 -- ---- a line for each record of the listing, in its order, and the total
 unfoldable pub listing-text : Verdicts → ℕ → List ℕ
@@ -47,7 +47,7 @@ listing-text v k = flatMap (cell-line v) (those (is-listed v k) (walking-order k
 
 -- ---- the text that is written
 abbrev pub text-after : Outcome → List ℕ
-text-after (refused n line) = refused-line n line
+text-after (refused n line field) = refused-line n line field
 text-after (accepted w) = listing-text (verdict (sheet-in w) (mode-of (w .mode))) (w .k)
 
 unfoldable pub written-text : List ℕ → List ℕ

@@ -1,4 +1,4 @@
--- Calls and refusals: the table's rows 1 to 9 as one list, of which the first condition that holds gives the number. Rows 11 and 10, tried before them, are those of reading a text.
+-- Calls and refusals: the table's rows 1 to 9 as one list, of which the first condition that holds gives the number. Rows 11 and 14 to 20, tried before them, are those of reading a text.
 use mathlib.Core.Bool.{Bool, false, not, _||_, cond}
 use mathlib.Core.List.{List, [], _∷_}
 use Prim.Native.Nat.{ℕ, zero, suc, _+_, _^_}

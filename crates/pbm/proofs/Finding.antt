@@ -9,7 +9,7 @@ use lib.Dec.{eqb}
 use lib.ListN.{length}
 use borrow.Author.Tests.{eqb-true, eqb-false, not-true}
 use Rattle.algebra.proofs.Choice.{and-left, and-right, cond-first}
-use Rattle.page.specs.SheetText.{all-digits, is-empty, amount}
+use Rattle.page.specs.SheetLine.{all-digits, is-empty, amount}
 use Rattle.pbm.specs.Reading.{is-size, piece-text, gap-text, is-after, Parts, plain-text, bits-in, ArePlain, Picture, picture-of, IsPlain}
 use Rattle.pbm.specs.Refusals.{Found, not-plain, plain, Finds}
 use Rattle.pbm.specs.Steps.{size-then, Bits, cut-short, complete, take-bits, found-in, found, after-opening, after-height, after-width}

@@ -8,7 +8,7 @@ use native.Mathlib.Omega.{arith}
 use lib.Dec.{leb, eqb}
 use borrow.Author.Tests.{leb-true, eqb-true, ne-eqb}
 use Rattle.algebra.proofs.Choice.{and-left, and-right, and-both}
-use Rattle.page.specs.SheetText.{is-digit, is-empty}
+use Rattle.page.specs.SheetLine.{is-digit, is-empty}
 use Rattle.pbm.specs.Reading.{each, is-white, ends-comment, Piece, white, comment, is-piece, piece-text, Gap, last, then, is-gap, gap-text}
 use Rattle.pbm.specs.Steps.{in-gap, after-gap, is-parted}
 

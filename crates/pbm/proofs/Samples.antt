@@ -6,7 +6,7 @@ use Prim.Native.Nat.{ℕ}
 use lib.ListN.{replicate}
 use Rattle.algebra.specs.Sum.{run, span, _⋯_}
 use Rattle.verdicts.specs.Walking.{those}
-use Rattle.page.specs.SheetText.{all-digits, amount}
+use Rattle.page.specs.SheetLine.{all-digits, amount}
 use Rattle.page.specs.Refusals.{first}
 use Rattle.page.specs.ListingText.{digits-within, decimal}
 use Rattle.pbm.specs.Writing.{head-text, row-text, rows-text, picture-text, text-length, raster-mask}

@@ -12,7 +12,7 @@ use lib.Pow.{pow-pos}
 use borrow.Author.Tests.{leb-true, le-leb, eq-eqb, ne-eqb}
 use Rattle.algebra.specs.Sum.{span}
 use Rattle.algebra.proofs.Choice.{and-left, and-right, and-both}
-use Rattle.page.specs.SheetText.{Line, before-line, lines, is-digit, all-digits}
+use Rattle.page.specs.SheetLine.{Line, before-line, lines, is-digit, all-digits}
 use Rattle.page.specs.ListingText.{decimal}
 use Rattle.pbm.specs.Writing.{head-text, digit, digit-text, row-text, rows-text, picture-text}
 use Rattle.pbm.specs.Reading.{each}

@@ -9,7 +9,7 @@ use lib.ListN.{length}
 use lib.Pow.{pow-mono}
 use borrow.Author.Tests.{ne-eqb}
 use Rattle.algebra.proofs.Choice.{and-left, and-both}
-use Rattle.page.specs.SheetText.{is-digit, all-digits, is-empty, is-decimal, amount}
+use Rattle.page.specs.SheetLine.{is-digit, all-digits, is-empty, is-decimal, amount}
 use Rattle.page.specs.ListingText.{decimal}
 use Rattle.page.proofs.Decimals.{decimal-short, decimal-reads}
 use Rattle.pbm.specs.Reading.{is-size}

@@ -6,7 +6,7 @@ use Prim.Native.Nat.{ℕ}
 use lib.Dec.{T, eqb}
 use borrow.Author.Tests.{eqb-true, not-true}
 use Rattle.algebra.proofs.Choice.{and-left, and-right, and-both, cond-first}
-use Rattle.page.specs.SheetText.{is-digit, all-digits, is-empty, amount}
+use Rattle.page.specs.SheetLine.{is-digit, all-digits, is-empty, amount}
 use Rattle.pbm.specs.Reading.{each, is-white, ends-comment, Piece, white, comment, is-piece, piece-text, Gap, is-gap, gap-text, is-size, Picture}
 use Rattle.pbm.specs.Refusals.{Found, not-plain, plain, is-not-plain}
 use Rattle.pbm.specs.Steps.{leading, beyond, after-gap, is-parted, size-then, after-comment, opening-then}

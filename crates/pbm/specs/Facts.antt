@@ -5,7 +5,7 @@ use mathlib.Core.List.{List, [], _∷_}
 use Prim.Native.Nat.{ℕ, _^_, _≤_}
 use lib.Dec.{leb}
 use lib.ListN.{length}
-use Rattle.page.specs.SheetText.{lines}
+use Rattle.page.specs.SheetLine.{lines}
 use Rattle.pbm.specs.Writing.{picture-text, text-length, raster-mask}
 use Rattle.pbm.specs.Reading.{each, Picture, IsPlain}
 use Rattle.pbm.specs.Refusals.{Found, Finds, depths, picture-mask}

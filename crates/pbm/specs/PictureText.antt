@@ -10,7 +10,7 @@ use Rattle.pbm.specs.Writing.{picture-text}
 
 -- the PBM of its raster, or the refusal line of the listing program
 abbrev pub picture-after : Outcome → List ℕ
-picture-after (refused n line) = refused-line n line
+picture-after (refused n line field) = refused-line n line field
 picture-after (accepted w) = picture-text (w .k) (raster (verdict (sheet-in w) (mode-of (w .mode))) (w .k))
 
 unfoldable pub depicted-text : List ℕ → List ℕ

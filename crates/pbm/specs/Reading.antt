@@ -7,7 +7,7 @@ use lib.Dec.{eqb}
 use lib.ListN.{length, getD}
 use Rattle.algebra.specs.Sum.{span}
 use Rattle.verdicts.specs.Walking.{those}
-use Rattle.page.specs.SheetText.{all-digits, is-empty, amount}
+use Rattle.page.specs.SheetLine.{all-digits, is-empty, amount}
 
 -- every member has the property
 unfoldable pub each : {A : Type 0} → (A → Bool) → List A → Bool

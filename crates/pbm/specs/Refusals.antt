@@ -6,7 +6,7 @@ use lib.Dec.{ltb, eqb}
 use lib.ListN.{length, getD}
 use Rattle.algebra.specs.Sum.{_⋯_}
 use Rattle.verdicts.specs.Walking.{those}
-use Rattle.page.specs.SheetText.{is-empty}
+use Rattle.page.specs.SheetLine.{is-empty}
 use Rattle.page.specs.Refusals.{Row, _when_, first}
 use Rattle.pbm.specs.Writing.{text-length}
 use Rattle.pbm.specs.Reading.{Picture, IsPlain, mask}

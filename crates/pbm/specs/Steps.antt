@@ -4,7 +4,7 @@ use mathlib.Core.List.{List, [], _∷_}
 use Prim.Native.Nat.{ℕ, zero, suc, _*_, _-_}
 use lib.Dec.{eqb}
 use lib.ListN.{drop}
-use Rattle.page.specs.SheetText.{is-digit, is-empty, amount}
+use Rattle.page.specs.SheetLine.{is-digit, is-empty, amount}
 use Rattle.pbm.specs.Reading.{is-white, ends-comment, is-bit, is-after}
 use Rattle.pbm.specs.Refusals.{Found, not-plain, plain}
 

@@ -23,15 +23,15 @@ gathered-long d values = let l = length-append (in-order d (table-at values)) (r
 
 -- ---- a refusal, or the whole sheet, by the number
 module _ (w : Said) {n : ℕ} (number : n ≡ refusal (to-read w)) where
-  pub judged-refused : (n ≡ 0 → ⊥) → reading-of (refused n 0) ≡ reading-of (outcome-of (well-formed w))
-  judged-refused h = ap reading-of (unless-refused (λ m. refused m 0) (accepted w) n h ∙ ap (λ m. unless m (λ m. refused m 0) (accepted w)) number)
+  pub judged-refused : (n ≡ 0 → ⊥) → reading-of (refused n 0 0) ≡ reading-of (outcome-of (well-formed w))
+  judged-refused h = ap reading-of (unless-refused (λ m. refused m 0 0) (accepted w) n h ∙ ap (λ m. unless m (λ m. refused m 0 0) (accepted w)) number)
 
   pub judged-accepted : n ≡ 0 → reading-of (accepted w) ≡ reading-of (outcome-of (well-formed w))
-  judged-accepted e = ap reading-of (unless-none (λ m. refused m 0) (accepted w) (refusal (to-read w)) (sym number ∙ e))
+  judged-accepted e = ap reading-of (unless-none (λ m. refused m 0 0) (accepted w) (refusal (to-read w)) (sym number ∙ e))
 
 -- a sheet as it is read
 abbrev pub sheet-read : Head → List ℤ → Reading
-sheet-read h l = record { refusal = 0; line = 0; d = h .d; x = h .x; y = h .y; s = h .s; k = h .k; mode = h .mode; coefficients = l }
+sheet-read h l = record { refusal = 0; line = 0; field = 0; d = h .d; x = h .x; y = h .y; s = h .s; k = h .k; mode = h .mode; coefficients = l }
 
 -- ---- the table holds the terms
 module _ (h : Head) (values : List ℤ) (ts : List Term) (held : (i j : ℕ) → i ≤ 8 → j ≤ 8 → getD values (place-of i j) (pos 0) ≡ coefficient-of ts i j) (degree : h .d ≤ 8)

@@ -2,6 +2,7 @@ pub mod Gathering
 pub mod Judging
 pub mod Tables
 pub mod Heads
+pub mod TermLines
 pub mod Naming
 pub mod Promises
 pub mod Facts

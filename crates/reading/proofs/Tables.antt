@@ -1,18 +1,19 @@
 -- Two tables of 9 by 9 places hold the terms of a text: their coefficients, and which of them are named.
 use mathlib.Core.Path.{_≡_, refl, sym, _∙_, ap, ap₂}
-use mathlib.Core.Bool.{Bool, true, false, not, _&&_, _||_, cond, false≢true}
+use mathlib.Core.Bool.{Bool, true, false, _||_, cond}
 use mathlib.Core.List.{List, [], _∷_}
 use Prim.Native.Nat.{ℕ, _+_, _≤_, _<_}
 use native.Mathlib.Decide.{ℕ-discrete}
 use native.Mathlib.Omega.{arith}
-use borrow.Author.Tests.{leb-true, eqb-true, le-leb, eq-eqb, ne-eqb}
-use lib.Dec.{leb, eqb}
+use borrow.Author.Tests.{ltb-false, eqb-true, le-ltb, eq-eqb, ne-eqb}
+use lib.Dec.{ltb, eqb}
 use lib.IntN.{ℤ, pos}
 use lib.ListN.{length, getD, set, replicate, length-set, length-replicate, getD-replicate}
 use lib.Seq.{getD-set-same, getD-set-other}
 use Rattle.algebra.proofs.Choice.{same-test, and-left, and-right, and-both}
-use Rattle.page.specs.SheetText.{Term, is-term, is-named, is-admitted}
-use Rattle.reading.specs.Steps.{place-of, admitted, Enters, Tables}
+use Rattle.page.proofs.Rows.{or-both}
+use Rattle.page.specs.SheetText.{Term, is-term, is-named, is-beyond}
+use Rattle.reading.specs.Steps.{place-of, term-fault-in, Tables}
 
 -- ---- places: the term i, j stands at 9i + j, and no other stands there
 place-within : (i j : ℕ) → i ≤ 8 → j ≤ 8 → place-of i j < 81
@@ -40,16 +41,50 @@ no-terms =
       names = λ i j h k. getD-replicate {A = ℕ} 81 (place-of i j) 0 0 (place-within i j h k);
     }
 
--- ---- tests in another order; what a mark says, and the marks of two
-in-turn : (a b c x y : Bool) → (a ≡ true → b ≡ true → x ≡ y) → a && b && c && x ≡ c && a && b && y
-in-turn true true true x y h = h refl refl
-in-turn true true false x y h = refl
-in-turn true false true x y h = refl
-in-turn true false false x y h = refl
-in-turn false b true x y h = refl
-in-turn false b false x y h = refl
+-- ---- what is wrong with a term
+module _ (d i j : ℕ) where
+  -- within the degree, and no exponent above 8
+  not-beyond : is-beyond d i j ≡ false → (i ≤ 8) × (j ≤ 8) × (i + j ≤ d)
+  not-beyond e =
+      let (a, c) = or-both (ltb d (i + j) || ltb 8 i) (ltb 8 j) e in let (s, b) = or-both (ltb d (i + j)) (ltb 8 i) a in
+      (ltb-false 8 i b, ltb-false 8 j c, ltb-false d (i + j) s)
 
-marked : (b : Bool) → eqb (cond b 1 0) 0 ≡ not b
+  -- 18 where it is not
+  pub beyond-18 : (i ≤ 8 → j ≤ 8 → i + j ≤ d → ⊥) → (named : List ℕ) → 18 ≡ term-fault-in d i j named
+  unfolding term-fault-in
+  beyond-18 h named = by (is-beyond d i j) refl _
+    where
+      by : (b : Bool) → is-beyond d i j ≡ b → (n : ℕ) → 18 ≡ cond b 18 n
+      by true e n = refl
+      by false e n = let (p, q, r) = not-beyond e in absurd (h p q r)
+
+  -- and else by the mark at its own place
+  module _ (h : i ≤ 8) (k : j ≤ 8) (l : i + j ≤ d) (named : List ℕ) {at : ℕ} (here : at ≡ place-of i j) where
+    not-18 : term-fault-in d i j named ≡ cond (eqb (getD named at 0) 0) 0 19
+    unfolding term-fault-in
+    not-18 = let a = le-ltb d (i + j) l in let b = le-ltb 8 i h in let c = le-ltb 8 j k in rw (a, b, c) (ap (λ n. cond (eqb (getD named n 0) 0) 0 19) (sym here))
+
+    pub marked-19 : (getD named at 0 ≡ 0 → ⊥) → 19 ≡ term-fault-in d i j named
+    marked-19 n = sym (not-18 ∙ ap (λ b. cond b 0 19) (ne-eqb (getD named at 0) 0 n))
+
+    pub unmarked-0 : getD named at 0 ≡ 0 → 0 ≡ term-fault-in d i j named
+    unmarked-0 e = sym (not-18 ∙ ap (λ b. cond b 0 19) (eq-eqb (getD named at 0) 0 e))
+
+  -- a term with no fault has its place in the tables
+  pub faultless : (named : List ℕ) → term-fault-in d i j named ≡ 0 → (i ≤ 8) × (j ≤ 8)
+  unfolding term-fault-in
+  faultless named = by (is-beyond d i j) refl _
+    where
+      by : (b : Bool) → is-beyond d i j ≡ b → (n : ℕ) → cond b 18 n ≡ 0 → (i ≤ 8) × (j ≤ 8)
+      by true e n z = absurd (omega arith)
+      by false e n z = let (p, q, _) = not-beyond e in (p, q)
+
+-- the number of a term's fault, by what the text has named
+abbrev pub fault-number : Bool → Bool → ℕ
+fault-number beyond twice = cond beyond 18 (cond twice 19 0)
+
+-- a mark, and the marks of two
+marked : (b : Bool) → _≡_ {A = ℕ} (cond (eqb (cond b 1 0) 0) 0 19) (cond b 19 0)
 marked true = refl
 marked false = refl
 
@@ -57,14 +92,19 @@ either : (a b : Bool) → _≡_ {A = ℕ} (cond a 1 (cond b 1 0)) (cond (a || b)
 either true b = refl
 either false b = refl
 
-module _ {ts : List Term} {values : List ℤ} {named : List ℕ} (tables : Tables ts values named) (t : Term) where
-  -- ---- a term is admitted where the text may name it
-  pub enter-new : (d : ℕ) → admitted d (t .i) (t .j) named ≡ is-admitted d ts t
-  enter-new d = in-turn (leb (t .i) 8) (leb (t .j) 8) (leb (t .i + t .j) d) _ _ (λ a b. ap (λ n. eqb n 0) (tables .names (t .i) (t .j) (leb-true (t .i) 8 a) (leb-true (t .j) 8 b)) ∙ marked (is-named (t .i) (t .j) ts))
+module _ {ts : List Term} {values : List ℤ} {named : List ℕ} (tables : Tables ts values named) where
+  -- the marks say which terms the text has named
+  pub fault-in-text : (d i j : ℕ) → term-fault-in d i j named ≡ fault-number (is-beyond d i j) (is-named i j ts)
+  unfolding term-fault-in
+  fault-in-text d i j = by (is-beyond d i j) refl
+    where
+      by : (b : Bool) → is-beyond d i j ≡ b → cond b 18 (cond (eqb (getD named (place-of i j) 0) 0) 0 19) ≡ fault-number b (is-named i j ts)
+      by true e = refl
+      by false e = let (p, q, _) = not-beyond d i j e in ap (λ n. cond (eqb n 0) 0 19) (tables .names i j p q) ∙ marked (is-named i j ts)
 
-  -- ---- and then the tables hold it too
-  pub enter-kept : t .i ≤ 8 → t .j ≤ 8 → Tables (t ∷ ts) (set values (place-of (t .i) (t .j)) (t .coefficient)) (set named (place-of (t .i) (t .j)) 1)
-  enter-kept h k =
+  -- a term that is entered is one that they hold
+  pub enter-kept : (t : Term) → t .i ≤ 8 → t .j ≤ 8 → Tables (t ∷ ts) (set values (place-of (t .i) (t .j)) (t .coefficient)) (set named (place-of (t .i) (t .j)) 1)
+  enter-kept t h k =
       let p = place-of (t .i) (t .j) in
       record {
         long = length-set values p (t .coefficient) ∙ tables .long;
@@ -76,27 +116,3 @@ module _ {ts : List Term} {values : List ℤ} {named : List ℕ} (tables : Table
             stored named p (place-of i j) 1 0 (let l = tables .marks in omega arith)
             ∙ ap₂ (λ b z. cond b 1 z) (sym (is-here t i j h k m n)) (tables .names i j m n) ∙ either (is-term i j t) (is-named i j ts);
       }
-
--- ---- entering a term, or leaving it out
--- what an admitted term is
-pub admits : (d i j : ℕ) (named : List ℕ) → admitted d i j named ≡ true → (i ≤ 8) × (j ≤ 8) × (i + j ≤ d) × (getD named (place-of i j) 0 ≡ 0)
-admits d i j named e =
-    let small = leb i 8 && leb j 8 in let unmarked = eqb (getD named (place-of i j) 0) 0 in
-    let a = and-left (small && leb (i + j) d) unmarked e in let b = and-left small (leb (i + j) d) a in
-    (leb-true i 8 (and-left (leb i 8) (leb j 8) b), leb-true j 8 (and-right (leb i 8) (leb j 8) b), leb-true (i + j) d (and-right small (leb (i + j) d) a), eqb-true _ 0 (and-right (small && leb (i + j) d) unmarked e))
-
-module _ {d i j : ℕ} {c : ℤ} {values : List ℤ} {named : List ℕ} where
-  pub left-out : (i ≤ 8 → j ≤ 8 → i + j ≤ d → getD named (place-of i j) 0 ≡ 0 → ⊥) → Enters d i j c values values named named false
-  left-out h = record { answer = same-test false (admitted d i j named) (λ e. absurd (false≢true e)) (λ e. let (a, b, s, z) = admits d i j named e in absurd (h a b s z)); entered = refl; marked = refl }
-
-  -- by the mark at the term's own place
-  module _ {at : ℕ} where
-    pub marked-out : (getD named at 0 ≡ 0 → ⊥) → at ≡ place-of i j → Enters d i j c values values named named false
-    marked-out h p = left-out (λ _ _ _ e. h (ap (λ n. getD named n 0) p ∙ e))
-
-    pub taken-in : i ≤ 8 → j ≤ 8 → i + j ≤ d → getD named at 0 ≡ 0 → at ≡ place-of i j → Enters d i j c values (set values at c) named (set named at 1) true
-    taken-in h k l e p = record {
-      answer = rw (le-leb i 8 h, le-leb j 8 k, le-leb (i + j) d l, eq-eqb (getD named (place-of i j) 0) 0 (ap (λ n. getD named n 0) (sym p) ∙ e));
-      entered = ap (λ n. set values n c) p;
-      marked = ap (λ n. set named n 1) p;
-    }

@@ -1,4 +1,4 @@
--- The answer of `read`: the whole sheet by value, its unused coefficients zero; or a refusal's number, its line, and zeros.
+-- The answer of `read`: the whole sheet by value, its unused coefficients zero; or a refusal's number, its line and its field, and zeros.
 use mathlib.Core.List.{List, _++_}
 use Prim.Native.Nat.{ℕ, _-_}
 use lib.IntN.{pos}
@@ -8,11 +8,12 @@ use Rattle.page.specs.SheetText.{in-order, coefficient-of, Outcome, refused, ac
 use Rattle.reading.specs.declared.Reading.{Reading}
 
 abbrev pub reading-of : Outcome → Reading
-reading-of (refused n line) = record { refusal = n; line = line; d = 0; x = pos 0; y = pos 0; s = 0; k = 0; mode = 0; coefficients = replicate 45 (pos 0) }
+reading-of (refused n line field) = record { refusal = n; line = line; field = field; d = 0; x = pos 0; y = pos 0; s = 0; k = 0; mode = 0; coefficients = replicate 45 (pos 0) }
 reading-of (accepted w) =
     record {
       refusal = 0;
       line = 0;
+      field = 0;
       d = w .d;
       x = w .X;
       y = w .Y;

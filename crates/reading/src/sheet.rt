@@ -39,13 +39,14 @@ fn gathered(d: usize, values: &[i32]) -> [i32; 45]
     coefficients
 }
 
-// A refusal: its number, the line where one is meant, and zeros.
-pub fn refused(number: u32, line: u32) -> Reading
-    ensures { λ r. ⌜ r ≡ reading-of (refused-by number line) ⌝ }
+// A refusal: its number, the line and the field where they are meant, and zeros.
+pub fn refused(number: u32, line: u32, field: u32) -> Reading
+    ensures { λ r. ⌜ r ≡ reading-of (refused-by number line field) ⌝ }
 {
     Reading {
         refusal: number,
         line,
+        field,
         d: 0,
         x: 0,
         y: 0,
@@ -63,7 +64,7 @@ pub fn judged(head: Head, values: &[i32]) -> Reading
 {
     let d = head.d;
     if 8 < d {
-        return refused(1, 0);
+        return refused(1, 0, 0);
     }
     let n = d as usize;
     let coefficients = gathered(n, values);
@@ -78,11 +79,12 @@ pub fn judged(head: Head, values: &[i32]) -> Reading
         head.mode,
     );
     if number != 0 {
-        return refused(number, 0);
+        return refused(number, 0, 0);
     }
     Reading {
         refusal: 0,
         line: 0,
+        field: 0,
         d,
         x: head.x,
         y: head.y,

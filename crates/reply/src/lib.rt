@@ -65,7 +65,7 @@ fn list(sheet: Reading, place: &mut [u8]) -> usize
             coloured,
             ..
         } => writing::write_listing(place, &records[..length], visited, coloured),
-        Listed::Refused(number) => writing::write_refusal(place, number, 0),
+        Listed::Refused(number) => writing::write_refusal(place, number, 0, 0),
     }
 }
 
@@ -79,7 +79,7 @@ pub fn answer(text: &[u8], place: &mut [u8]) -> usize
     }
     let sheet = reading::read(text);
     if sheet.refusal != 0 {
-        return writing::write_refusal(place, sheet.refusal, sheet.line);
+        return writing::write_refusal(place, sheet.refusal, sheet.line, sheet.field);
     }
     list(sheet, place)
 }

@@ -65,7 +65,7 @@ fn draw(sheet: Reading, place: &mut [u8]) -> usize
     let count = finest(sheet.k);
     match printing::write_pbm(sheet.k, &raster[..count], place) {
         Printed::Bytes(n) => n,
-        Printed::Refused(number) => writing::write_refusal(place, number, 0),
+        Printed::Refused(number) => writing::write_refusal(place, number, 0, 0),
     }
 }
 
@@ -79,7 +79,7 @@ pub fn depict(text: &[u8], place: &mut [u8]) -> usize
     }
     let sheet = reading::read(text);
     if sheet.refusal != 0 {
-        return writing::write_refusal(place, sheet.refusal, sheet.line);
+        return writing::write_refusal(place, sheet.refusal, sheet.line, sheet.field);
     }
     draw(sheet, place)
 }

@@ -15,7 +15,7 @@ use Rattle.algebra.proofs.Choice.{same-test, and-left, and-right, and-both}
 use Rattle.algebra.proofs.Run.{span-first, span-none, ⋯-member}
 use Rattle.verdicts.specs.Walking.{those}
 use Rattle.verdicts.proofs.Lists.{those-first, those-cong}
-use Rattle.page.specs.SheetText.{is-empty}
+use Rattle.page.specs.SheetLine.{is-empty}
 use Rattle.pbm.specs.Reading.{Picture}
 use Rattle.pbm.specs.Refusals.{has-side, depths}
 use Rattle.scanning.specs.Steps.{depth-or}

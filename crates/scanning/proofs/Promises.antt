@@ -5,7 +5,7 @@ use mathlib.Core.List.{List, _++_}
 use Prim.Native.Nat.{ℕ, _≤_, _<_}
 use lib.ListN.{length, drop}
 use borrow.Author.Tests.{lt-ltb, le-ltb}
-use Rattle.page.specs.SheetText.{is-empty}
+use Rattle.page.specs.SheetLine.{is-empty}
 use Rattle.page.specs.Refusals.{first}
 use Rattle.page.proofs.Rows.{unless-ap, unless-refused, unless-none}
 use Rattle.pbm.specs.Reading.{Picture}

@@ -4,7 +4,7 @@ use mathlib.Core.List.{List, [], _∷_, flatMap}
 use Prim.Native.Nat.{ℕ}
 use Rattle.algebra.specs.Sum.{run, span, _⋯_}
 use Rattle.verdicts.specs.Walking.{those}
-use Rattle.page.specs.SheetText.{amount}
+use Rattle.page.specs.SheetLine.{amount}
 use Rattle.page.specs.Refusals.{first}
 use Rattle.pbm.specs.Reading.{mask}
 use Rattle.pbm.specs.Refusals.{plain, depths, read-table}

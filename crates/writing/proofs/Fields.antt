@@ -1,12 +1,13 @@
 -- Fields and lines: the room that they take, and lines put field by field.
-use mathlib.Core.List.{List, [], _∷_, _++_, append-assoc}
+use mathlib.Core.Path.{_≡_, refl, sym, _∙_, ap, subst}
+use mathlib.Core.List.{List, [], _∷_, _++_, map, flatMap, append-assoc}
 use Prim.Native.Nat.{ℕ, _+_, _/_, _%_, _^_, _≤_, _<_}
 use native.Mathlib.Omega.{arith}
 use lib.Dec.{lit≤}
 use lib.ListN.{length, length-append}
-use Rattle.page.specs.ListingText.{decimal, mark, record-line}
+use Rattle.page.specs.ListingText.{decimal, line-text, mark, record-line}
 use Rattle.page.proofs.Decimals.{decimal-short}
-use Rattle.writing.specs.Steps.{record-text, Put}
+use Rattle.writing.specs.Steps.{record-text, tabbed, Put}
 use Rattle.writing.proofs.Puts.{put-two}
 
 -- ---- at most ten digits, five for a level, three for a column or a row
@@ -36,3 +37,13 @@ pub put-cells : (colour level p q : ℕ) {l₀ l₁ l₂ l₃ l₄ l₅ : List �
     → Put a₃ (mark colour ∷ []) l₃ l₄ a₄ → Put a₄ (10 ∷ []) l₄ l₅ a₅ → Put a₀ (record-line colour level p q) l₀ l₅ a₅
 unfolding record-line
 put-cells colour level p q h₁ h₂ h₃ h₄ h₅ = simp append-assoc at (put-two h₁ (put-two h₂ (put-two h₃ (put-two h₄ h₅))))
+
+-- ---- a line of a word and numbers is the word, each number after a tab, and LF
+line-is : (word ns : List ℕ) → line-text (word ∷ map decimal ns) ≡ word ++ (tabbed ns ++ (10 ∷ []))
+unfolding tabbed flatMap
+line-is word [] = refl
+line-is word (n ∷ ns) = ap (λ l. word ++ (9 ∷ l)) (line-is (decimal n) ns ∙ sym (append-assoc (decimal n) (tabbed ns) (10 ∷ [])))
+
+pub put-parts : (word ns : List ℕ) {l₀ l₁ l₂ l₃ : List ℕ} {a₀ a₁ a₂ a₃ : ℕ}
+    → Put a₀ word l₀ l₁ a₁ → Put a₁ (tabbed ns) l₁ l₂ a₂ → Put a₂ (10 ∷ []) l₂ l₃ a₃ → Put a₀ (line-text (word ∷ map decimal ns)) l₀ l₃ a₃
+put-parts word ns {l₀} {l₃ = l₃} {a₀} {a₃ = a₃} h₁ h₂ h₃ = subst (λ bytes. Put a₀ bytes l₀ l₃ a₃) (sym (line-is word ns)) (put-two h₁ (put-two h₂ h₃))

@@ -18,13 +18,13 @@ pub fn write_listing(place: &mut [u8], records: &[u32], visited: u32, coloured: 
     ensures { λ r. ⌜ Put 0 (records-text (now (records .entry)) ++ total-line visited coloured) (now (place .entry)) (now (place .exit)) r ⌝ }
 {
     let end = lines::put_records(place, records);
-    lines::put_line(place, end, b"total", visited, coloured)
+    lines::put_line(place, end, b"total", &[visited, coloured])
 }
 
 // The single line of a refusal.
-pub fn write_refusal(place: &mut [u8], number: u32, line: u32) -> usize
-    requires { ⌜ 30 ≤ length (now place) ⌝ }
-    ensures { λ r. ⌜ Put 0 (refused-line number line) (now (place .entry)) (now (place .exit)) r ⌝ }
+pub fn write_refusal(place: &mut [u8], number: u32, line: u32, field: u32) -> usize
+    requires { ⌜ 41 ≤ length (now place) ⌝ }
+    ensures { λ r. ⌜ Put 0 (refused-line number line field) (now (place .entry)) (now (place .exit)) r ⌝ }
 {
-    lines::put_line(place, 0, b"refused", number, line)
+    lines::put_line(place, 0, b"refused", &[number, line, field])
 }

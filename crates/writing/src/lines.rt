@@ -1,12 +1,13 @@
-// Lines: those of the records, and a word with two numbers.
+// Lines: those of the records, and a word with numbers.
 use crate::number::put_byte;
 use crate::number::put_field;
+use crate::number::put_number;
 ghost use mathlib.Core.Path.{_≡_};
-ghost use mathlib.Core.List.{[], _∷_};
+ghost use mathlib.Core.List.{_∷_, map};
 ghost use Prim.Native.Nat.{_+_, _*_, _≤_};
 ghost use lib.ListN.{length};
 ghost use Rattle.page.specs.ListingText.{mark, line-text, decimal};
-ghost use Rattle.writing.specs.Steps.{record-text, records-text, Put};
+ghost use Rattle.writing.specs.Steps.{record-text, records-text, tabbed, Put};
 
 // A tab between fields, LF after the last.
 const TAB: u8 = 9;
@@ -64,13 +65,27 @@ pub fn put_word(place: &mut [u8], at: usize, word: &[u8]) -> usize
     end
 }
 
-// The line of a word and two numbers.
-pub fn put_line(place: &mut [u8], at: usize, word: &[u8], a: u32, b: u32) -> usize
-    requires { ⌜ at + length (now word) + 23 ≤ length (now place) ⌝ }
-    ensures { λ r. ⌜ Put at (line-text (now (word .entry) ∷ decimal a ∷ decimal b ∷ [])) (now (place .entry)) (now (place .exit)) r ⌝ }
+// Numbers, each after a tab.
+fn put_numbers(place: &mut [u8], at: usize, numbers: &[u32]) -> usize
+    requires { ⌜ at + 11 * length (now numbers) ≤ length (now place) ⌝ }
+    ensures { λ r. ⌜ Put at (tabbed (now (numbers .entry))) (now (place .entry)) (now (place .exit)) r × (r ≤ at + 11 * length (now (numbers .entry))) ⌝ }
+{
+    let mut end = at;
+    let mut i = 0;
+    while i < numbers.len() {
+        end = put_byte(place, end, TAB);
+        end = put_number(place, end, numbers[i]);
+        i += 1;
+    }
+    end
+}
+
+// The line of a word and numbers.
+pub fn put_line(place: &mut [u8], at: usize, word: &[u8], numbers: &[u32]) -> usize
+    requires { ⌜ at + length (now word) + 11 * length (now numbers) + 1 ≤ length (now place) ⌝ }
+    ensures { λ r. ⌜ Put at (line-text (now (word .entry) ∷ map decimal (now (numbers .entry)))) (now (place .entry)) (now (place .exit)) r ⌝ }
 {
     let next = put_word(place, at, word);
-    let first = put_byte(place, next, TAB);
-    let second = put_field(place, first, a, TAB);
-    put_field(place, second, b, LF)
+    let end = put_numbers(place, next, numbers);
+    put_byte(place, end, LF)
 }

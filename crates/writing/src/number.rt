@@ -15,7 +15,7 @@ pub fn put_byte(place: &mut [u8], at: usize, byte: u8) -> usize
 }
 
 // A number in decimal: the digits of its tenth, and the last one.
-fn put_number(place: &mut [u8], at: usize, n: u32) -> usize
+pub fn put_number(place: &mut [u8], at: usize, n: u32) -> usize
     requires { ⌜ at + length (decimal n) ≤ length (now place) ⌝ }
     ensures { λ r. ⌜ Put at (decimal n) (now (place .entry)) (now (place .exit)) r ⌝ }
 {

@@ -35,7 +35,7 @@ refused-requires-3 c κs = search needs
 
 returns-3 : tie.Need-returns-3
 returns-3 c =
-    let t = c .before .before .before .before in let e = t .before .before .before in let h = e .before .before in
+    let t = c .before .before .before .before .before in let e = t .before .before .before in let h = e .before .before in
     bad-term _ (omega (arith, h .before .if1 .left)) (h .read-head .ensures) (e .if2 .left) (t .read-terms .ensures) (c .before .if3 .taken) (c .refused3 .ensures)
 
 slice-aggregate-judged : tie.Need-slice-aggregate-judged
@@ -46,7 +46,7 @@ judged-requires c κs = search needs
 
 returns-4 : tie.Need-returns-4
 returns-4 c =
-    let t = c .before .before .before .before .before in let e = t .before .before .before in let h = e .before .before in
+    let t = c .before .before .before .before .before .before in let e = t .before .before .before in let h = e .before .before in
     well-read _ (omega (arith, h .before .if1 .left)) (h .read-head .ensures) (e .if2 .left) (t .read-terms .ensures) (c .before .before .if3 .left) (c .judged .ensures)
 
 pub read-spec : {M : Type 1} → statement M

@@ -7,7 +7,7 @@ use Rattle.compare_texts.proofs.sheet.put_coefficients.Statement.{state
 use Rattle.compare_texts.proofs.sheet.put_coefficients.Tie as tie
 
 abbrev Inv-loop : tie.InvT-loop
-Inv-loop out₀ coefficients i₀ out i = (i ≤ 45) × (length out ≡ 432)
+Inv-loop out₀ coefficients i₀ out i = (i ≤ 45) × (length out ≡ 440)
 
 abbrev μ-loop : tie.MeasureT-loop
 μ-loop out₀ coefficients i₀ out i = 45 - i

@@ -7,7 +7,7 @@ use Rattle.lines.proofs.Numerals.{all-found, all-next, all-end}
 use mathlib.Core.Path.{_≡_}
 use Prim.Native.Nat.{_≤_, _-_}
 use lib.ListN.{length, drop}
-use Rattle.page.specs.SheetText.{all-digits}
+use Rattle.page.specs.SheetLine.{all-digits}
 use Rattle.lines.proofs.digits.digits_only.Statement.{statement}
 use Rattle.lines.proofs.digits.digits_only.Tie as tie
 

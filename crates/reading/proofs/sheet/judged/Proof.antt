@@ -9,7 +9,6 @@ use lib.ListN.{length, getD}
 use lib.Seq.{length-take-le}
 use mir.Syntax.{w32}
 use mir.Val.{toZ, ofZ}
-use Rattle.page.specs.Sheet.{count}
 use Rattle.page.specs.Refusals.{refusal}
 use Rattle.page.specs.SheetText.{Term, coefficient-of, Said, to-read, refused}
 use Rattle.page.proofs.TextRows.{read-1}
@@ -30,7 +29,7 @@ refused-requires : tie.Need-refused-requires
 refused-requires c κs = search needs
 
 returns : tie.Need-returns
-returns c ts held = let s = c .before .before in let w = said-by (s .args .head) ts in let e : c .refused .result ≡ reading-of (refused 1 0) = c .refused .ensures in e ∙ judged-refused w (read-1 w (omega (arith, c .before .if1 .taken))) (λ z. omega arith)
+returns c ts held = let s = c .before .before in let w = said-by (s .args .head) ts in let e : c .refused .result ≡ reading-of (refused 1 0 0) = c .refused .ensures in e ∙ judged-refused w (read-1 w (omega (arith, c .before .if1 .taken))) (λ z. omega arith)
 
 cast-n : tie.Need-cast-n
 cast-n c = search needs

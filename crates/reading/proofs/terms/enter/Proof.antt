@@ -1,46 +1,60 @@
--- `terms::enter` meets its contract: the term's bounds, the degree and the mark, one after the other.
+-- `reading::terms::enter` meets its contract, number by number.
+use mathlib.Core.Path.{_≡_, refl}
+use Prim.Native.Nat.{_+_, _*_, _<_}
 use native.Mathlib.Omega.{arith}
 use borrow.Author.Needs.{needs}
-use mir.Facts.{toZ-ofZ}
-use Rattle.reading.proofs.Tables.{left-out, marked-out, taken-in}
+use lib.IntN.{pos}
+use lib.ListN.{getD}
+use Rattle.page.specs.SheetLine.{whole-at}
+use Rattle.lines.proofs.Numerals.{read32, sized}
+use Rattle.reading.specs.Steps.{place-of}
 use Rattle.reading.proofs.terms.enter.Statement.{statement}
 use Rattle.reading.proofs.terms.enter.Tie as tie
 
-returns : tie.Need-returns
-returns c = left-out (λ h k l e. omega (arith, c .if1 .taken))
+array-copy-out-size : tie.Need-array-copy-out-size
+array-copy-out-size c = search needs
 
-returns-2 : tie.Need-returns-2
-returns-2 c = left-out (λ h k l e. omega (arith, c .if2 .taken))
+size-requires : tie.Need-size-requires
+size-requires c κs = search needs
 
-add-if3 : tie.Need-add-if3
-add-if3 c = search needs
-
-returns-3 : tie.Need-returns-3
-returns-3 c = left-out (λ h k l e. omega (arith, c .if3 .taken))
+-- the exponents are the term's first two numbers
+first-is : (c : tie.After-size) → c .size .result ≡ whole-at (c .before .before .before .args .t1) 0
+first-is c = sized (getD (c .before .before .before .args .t1) 0 (pos 0)) (c .size .ensures) (c .before .size-arg .given)
 
 mul-at : tie.Need-mul-at
-mul-at c = search needs
+mul-at c = let i = first-is c in record { fits = omega (arith, c .before .before .before .pre .1) }
+
+array-copy-out-size-2 : tie.Need-array-copy-out-size-2
+array-copy-out-size-2 c = search needs
+
+size-requires-2 : tie.Need-size-requires-2
+size-requires-2 c κs = search needs
+
+second-is : (c : tie.After-size2) → c .size2 .result ≡ whole-at (c .before .before .before .before .before .args .t1) 1
+second-is c = sized (getD (c .before .before .before .before .before .args .t1) 1 (pos 0)) (c .size2 .ensures) (c .before .size-arg2 .given)
+
+-- so the term has its place among the 81
+place : (c : tie.After-size2) → let s = c .before .before .before .before .before in
+    (9 * c .before .before .size .result + c .size2 .result ≡ place-of (whole-at (s .args .t1) 0) (whole-at (s .args .t1) 1)) × (9 * c .before .before .size .result + c .size2 .result < 81)
+place c = let i = first-is (c .before .before) in let j = second-is c in let s = c .before .before .before .before .before in (omega arith, omega (arith, s .pre .1, s .pre .2))
 
 add-at : tie.Need-add-at
-add-at c = search needs
+add-at c = let p = place c in record { fits = omega arith }
 
 cast-at : tie.Need-cast-at
 cast-at c = search needs
 
-slice-read-if4 : tie.Need-slice-read-if4
-slice-read-if4 c = omega arith
-
-returns-4 : tie.Need-returns-4
-returns-4 c = marked-out (c .if4 .taken) (omega arith)
-
 slice-write-named : tie.Need-slice-write-named
-slice-write-named c = omega arith
+slice-write-named c = let p = place c in omega (arith, c .before .before .before .before .before .pre .4)
 
-mul-coefficient : tie.Need-mul-coefficient
-mul-coefficient c = search needs
+array-copy-out-values : tie.Need-array-copy-out-values
+array-copy-out-values c = search needs
 
-slice-set-from-coefficient : tie.Need-slice-set-from-coefficient
-slice-set-from-coefficient c = omega arith
+mul-t19 : tie.Need-mul-t19
+mul-t19 c = search needs
+
+slice-set-from-values : tie.Need-slice-set-from-values
+slice-set-from-values c = let p = place (c .before) in omega (arith, c .before .before .before .before .before .before .pre .3)
 
 same-length : tie.Need-same-length
 same-length c = search needs
@@ -48,25 +62,26 @@ same-length c = search needs
 same-length-2 : tie.Need-same-length-2
 same-length-2 c = search needs
 
-returns-5 : tie.Need-returns-5
-returns-5 c = rw (toZ-ofZ (c .before .before .before .before .before .fits .coefficient)) (taken-in (omega arith) (omega arith) (omega arith) (c .if4 .left) (omega arith))
+returns : tie.Need-returns
+returns c =
+    let p = place (c .before) .0 in let s = c .before .before .before .before .before .before in let z = read32 (getD (s .args .t1) 2 (pos 0)) (c .values .given) in
+    rw (p, z) (refl, refl)
 
 pub enter-spec : {M : Type 1} → statement M
 enter-spec =
     tie.close
     (tie.spec
-    returns
-    returns-2
-    add-if3
-    returns-3
+    array-copy-out-size
+    size-requires
     mul-at
+    array-copy-out-size-2
+    size-requires-2
     add-at
     cast-at
-    slice-read-if4
-    returns-4
     slice-write-named
-    mul-coefficient
-    slice-set-from-coefficient
+    array-copy-out-values
+    mul-t19
+    slice-set-from-values
     same-length
     same-length-2
-    returns-5)
+    returns)

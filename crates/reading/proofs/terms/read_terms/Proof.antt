@@ -26,16 +26,16 @@ same-length-2 : tie.Need-same-length-2 Inv-loop μ-loop
 same-length-2 c = search needs
 
 returns : tie.Need-returns Inv-loop μ-loop
-returns c = let t = c .before .before .before .before in naming-bad _ _ _ (t .before .before .before .before .loop .inv) (t .term-line .ensures) (c .if1 .taken)
+returns c = let t = c .before .before .before .before .before in naming-bad _ _ _ (t .before .before .before .before .loop .inv) (t .term-line .ensures) (c .if1 .taken)
 
 add-line : tie.Need-add-line Inv-loop μ-loop
-add-line c = let l = c .before .before .before .before .before .before .before .before .loop .inv in record { fits = omega (arith, l .most, l .within) }
+add-line c = let l = c .before .before .before .before .before .before .before .before .before .loop .inv in record { fits = omega (arith, l .most, l .within) }
 
 loop-less : tie.Need-loop-less Inv-loop μ-loop
-loop-less c = let f = c .before .before .before .before .term-line .ensures .further (c .if1 .left) in let w = c .before .before .before .before .term-line .ensures .within in omega (arith, f, w)
+loop-less c = let t = c .before .before .before .before .before .term-line .ensures in let f = t .further (c .if1 .left) in let w = t .within in omega arith
 
 loop-again : tie.Need-loop-again Inv-loop μ-loop
-loop-again c = let t = c .before .before .before .before in naming-next _ _ _ (t .before .before .before .before .loop .inv) (t .term-line .ensures) (c .if1 .left)
+loop-again c = let t = c .before .before .before .before .before in naming-next _ _ _ (t .before .before .before .before .loop .inv) (t .term-line .ensures) (c .if1 .left)
 
 same-length-3 : tie.Need-same-length-3 Inv-loop μ-loop
 same-length-3 c = search needs

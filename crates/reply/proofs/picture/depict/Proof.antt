@@ -24,7 +24,8 @@ returns-2 : tie.Need-returns-2
 unfolding depicted-text
 returns-2 c =
     let t = c .before .before .before .before in let r = t .before .before in let s = r .before .before .before .before in
-    written picture-room (depicted-text (s .args .text .now)) (s .args .place .now) (r .before .if1 .left) (refused-text picture-after (λ n line. refl) _ (r .read .ensures) (t .if2 .taken) (c .before .before .write-refusal .ensures))
+    written picture-room (depicted-text (s .args .text .now)) (s .args .place .now) (r .before .if1 .left)
+    (refused-text picture-after (λ n line field. refl) _ (r .read .ensures) (t .if2 .taken) (c .before .before .write-refusal .ensures))
 
 draw-requires : tie.Need-draw-requires
 draw-requires c κs = let r = c .before .before .before in (from-text _ (r .read .ensures) (c .before .if2 .left), r .before .if1 .left)
@@ -36,7 +37,8 @@ returns-3 : tie.Need-returns-3
 unfolding depicted-text
 returns-3 c =
     let t = c .before .before .before .before in let r = t .before .before in let s = r .before .before .before .before in
-    written picture-room (depicted-text (s .args .text .now)) (s .args .place .now) (r .before .if1 .left) (accepted-text picture-after (λ n line. refl) _ (r .read .ensures) (t .if2 .left) (c .before .before .draw .ensures))
+    written picture-room (depicted-text (s .args .text .now)) (s .args .place .now) (r .before .if1 .left)
+    (accepted-text picture-after (λ n line field. refl) _ (r .read .ensures) (t .if2 .left) (c .before .before .draw .ensures))
 
 pub depict-spec : {M : Type 1} → statement M
 depict-spec =

@@ -1,9 +1,9 @@
--- `lines::line::letter_alone` meets its contract, by the field's length and its first byte.
-use Rattle.lines.proofs.Counting.{alone, not-alone}
+-- `lines::fields::letter_alone` meets its contract, by the field's length and its first byte.
 use native.Mathlib.Omega.{arith}
 use borrow.Author.Needs.{needs}
-use Rattle.lines.proofs.line.letter_alone.Statement.{statement}
-use Rattle.lines.proofs.line.letter_alone.Tie as tie
+use Rattle.lines.proofs.Ending.{alone, not-alone}
+use Rattle.lines.proofs.fields.letter_alone.Statement.{statement}
+use Rattle.lines.proofs.fields.letter_alone.Tie as tie
 
 returns : tie.Need-returns
 returns c = not-alone (c .before .args .letter) (c .before .args .field .now) (λ e. omega (arith, c .if1 .taken))
