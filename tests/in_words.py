@@ -1,7 +1,12 @@
-"""What the script `sheet` says of a text that is refused: the meaning of the number, and what a bad line should hold.
+"""What the script `sheet` says of a text that is refused: the meaning of the number; and of a bad line the line itself with the field marked, what is
+wrong and what would be right.
 
-Nothing is decided here: the program has given its number, and the line of the text that it means.
+Nothing is decided here: the program has given its number, and the line and the field of the text that it means.
 """
+import re
+
+from fault_words import FAULTS
+from line_forms import field_words, fitting, place_of, signs_of
 from too_heavy import hints_for
 
 REASONS = {
@@ -12,57 +17,47 @@ REASONS = {
     6: "the weight is 2^62 or more, and 64 bits might not hold every number",
     11: "the text is longer than 8,192 bytes",
 }
-FORMS = ("D<tab>d", "B<tab>X<tab>Y<tab>s", "K<tab>k", "M<tab>mode", "T<tab>i<tab>j<tab>coefficient")
-HINTS = ("One tab parts the fields, and a line end follows each line. A number is whole, with no plus and no zero before it.",
-         "It is from -2,147,483,648 to 2,147,483,647, and only X, Y and a coefficient may be negative.")
-HOLDS = b"DBKMT-0123456789\t"  # what the lines of a sheet are made of
-TERMS = "In T lines i + j is at most d, neither is above 8, and no i and j come twice."
+UNKNOWN = "for no reason that this script knows"
+WIDTH = 72  # columns of a line
+MOST = 3  # hints
+HEAVY, UNENDED = 6, 20
 
 
-def safe(line):
-    """A line of a text, its odd bytes written out, and not too long."""
-    written = repr(line)[2:-1]
-    return written if len(written) <= 70 else f"{written[:60]}... ({len(line):,} bytes)"
+def marked_at(place, number):
+    """The first byte that is marked and the one after the last: those of the field; or none, at the end of an unended line; or nothing."""
+    if place.field is not None:
+        start = sum(len(field) + 1 for field in place.fields[:place.number - 1])
+        return start, start + len(place.field)
+    return (len(place.line), len(place.line)) if number == UNENDED and place.line else None
 
 
-def slips(line, followed):
-    """What the odd bytes of a bad line mean, and how the commonest slips are mended. A line end may have followed the line."""
-    odd = [f"{sign} is {name}" for byte, sign, name in ((b"\t", r"\t", "a tab"), (b"\r", r"\r", "a carriage return")) if byte in line]
-    if odd:
-        yield f"In it {' and '.join(odd)}."
-    if line.endswith(b"\r") and followed:
-        yield r"Editors on Windows end lines with a carriage return. This takes them out: tr -d '\r' < old.sheet > new.sheet"
-    fields = line.strip(b" \t\r")
-    if b" " in fields:
-        yield r"It has blanks, and only tabs part fields. This exchanges them: tr -s ' ' '\t' < old.sheet > new.sheet"
-    if fields != line.rstrip(b"\r"):
-        yield "A blank or a tab stands before the first field or after the last one, where none belongs."
-    strange = bytes(byte for byte in dict.fromkeys(line) if byte not in HOLDS + b" \r")
-    if strange:
-        yield f"No sheet holds such signs: {safe(strange)}"
-    if not strange.isascii():
-        yield "Among them are some beyond plain text: a long minus, a no-break blank, or a mark that an editor set before the text."
+def line_shown(place, number):
+    """The line of a fault, its odd bytes written out, and marks below the field. What is before the first bad field is good, and so it is short: a
+    long line is cut at its end."""
+    if not place.line:
+        return []
+    signs, marked = signs_of(place.line), marked_at(place, number)
+    last = fitting(signs, WIDTH)
+    line = "".join(signs[:last]) + ("..." if last < len(signs) else "")
+    if marked is None or marked[0] > last:
+        return [line]
+    before, field = "".join(signs[:marked[0]]), "".join(signs[marked[0]:min(marked[1], last)])
+    return [line, " " * len(before) + "^" * max(1, len(field))]
 
 
-def bad_line(text, at):
-    """What is said of a bad line."""
-    lines = text.split(b"\n")
-    form = FORMS[min(at, len(FORMS)) - 1]
-    met = lines[at - 1] if at <= len(lines) else b""
-    if at > len(lines) or at == len(lines) and not lines[-1]:
-        said = f"line {at} is missing: the text ends before it"
-    elif at == len(lines):
-        said = f"line {at} is bad, and no line end follows it: {safe(met)}"
-    else:
-        said = f"line {at} is bad: {safe(met) or '(empty)'}"
-    hints = [*slips(met, at < len(lines)), f"It should hold: {form}", *HINTS] + ([TERMS] if at >= len(FORMS) else [])
-    return [said, *(f"    {hint}" for hint in hints)]
+def bad_line(number, text, at, field):
+    """What is said of a bad line. Where the fault has no such place in the text, its meaning is."""
+    meaning, words_at = FAULTS[number]
+    place = place_of(text, at, field)
+    said, hints = words_at(place) or (f": {meaning}", [])
+    return [f"line {at}{field_words(place)}{said}", *line_shown(place, number), *hints[:MOST]]
 
 
 def refusal(text, answer):
     """The meaning of a refusal, in words."""
-    _, number, line = answer.decode("ascii").split("\t")
-    number, line = int(number), int(line)
-    first, *more = bad_line(text, line) if number == 10 else [REASONS.get(number, "for no reason that this script knows")]
-    more += [f"    {hint}" for hint in hints_for(text)] if number == 6 else []
-    return [f"refused by {number}: {first}", *more]
+    number, line, field = [*map(int, re.findall(rb"\d{1,9}", answer)), 0, 0, 0][:3]
+    if number in FAULTS:
+        first, *more = bad_line(number, text, line, field)
+    else:
+        first, *more = [REASONS.get(number, UNKNOWN), *(hints_for(text) if number == HEAVY else [])]
+    return [f"refused by {number}: {first}", *(f"    {line}" for line in more)]

@@ -3,11 +3,11 @@
     python3 tests/script.py [--without-devices]
 
 It is run as a person runs it: on the page's whole case, on every sheet of sheets/, whose pictures are compared with the second program's rasters, on
-texts that are refused by each number, on what cannot be read or written, and without arguments. What it says of a sheet that weighs too much is held
-to the second program (tests/advice.py), and so is its picture for a printer; its files are complete or not there at all (tests/script_pictures.py). A
-tree of its own, with a stand-in for `rt`, shows when a program is proved and built. And the picture that README.md begins with is the one that `sheet`
-draws, with the one that signs at the corners give beside it. A check that cannot be tried, since the machine lacks a device, is a fault, unless
---without-devices is said (tests/devices.py).
+texts that are refused by each number, on what cannot be read or written, and without arguments. What it says of a bad line is held to the second
+program (tests/script_faults.py), and so are what it says of a sheet that weighs too much (tests/advice.py) and its picture for a printer; its files
+are complete or not there at all (tests/script_pictures.py). A tree of its own, with a stand-in for `rt`, shows when a program is proved and built.
+And the picture that README.md begins with is the one that `sheet` draws, with the one that signs at the corners give beside it. A check that cannot
+be tried, since the machine lacks a device, is a fault, unless --without-devices is said (tests/devices.py).
 """
 import argparse
 import importlib.machinery
@@ -22,7 +22,9 @@ import tempfile
 sys.dont_write_bytecode = True  # nothing is left in the tree
 import advice
 import devices
+import script_faults
 import script_pictures
+import script_words
 import second
 import sheets
 from program import BUILT, ROOT
@@ -53,43 +55,21 @@ PICTURE = f"""\
 
 {LEGEND}
 """
-# what is said of bytes above 127
-BEYOND = "    Among them are some beyond plain text: a long minus, a no-break blank, or a mark that an editor set before the text.\n"
 # a text, and what is said of it
 REFUSALS = [
     (written("D 9", *START[1:]), "refused by 1: the degree d is above 8"),
     (written("D 1", "B 0 0 0", "K 8", "M 0"), "refused by 3: the depth k is above 7"),
     (written("D 1", "B 0 -1048577 0", "K 1", "M 0"), "refused by 4: the corner X or Y is outside -1,048,576 to 1,048,576, or s is above 10"),
     (written("D 1", "B 0 0 0", "K 1", "M 2"), "refused by 5: the mode is neither 0 nor 1"),
-    *((text, "".join([advice.SAID, *(f"\n    {hint}" for hint in told), "\n"])) for text, told in advice.TOLD),
-    (b"", "refused by 10: line 1 is missing: the text ends before it\n    It should hold: D<tab>d\n"),
-    (written(*START[:2]), "refused by 10: line 3 is missing: the text ends before it\n    It should hold: K<tab>k\n"),
-    (WHOLE[:-1], "refused by 10: line 6 is bad, and no line end follows it: T\\t1\\t0\\t1\n    In it \\t is a tab.\n"
-     "    It should hold: T<tab>i<tab>j<tab>coefficient\n"),
-    (WHOLE + b"\n", "refused by 10: line 7 is bad: (empty)\n    It should hold: T<tab>i<tab>j<tab>coefficient\n"),
-    (WHOLE.replace(b"B\t0", b"B\x1b[7m\xff 0\r"), "refused by 10: line 2 is bad: B\\x1b[7m\\xff 0\\r\\t0\\t0\n"
-     "    In it \\t is a tab and \\r is a carriage return.\n"
-     "    It has blanks, and only tabs part fields. This exchanges them: tr -s ' ' '\\t' < old.sheet > new.sheet\n"
-     f"    No sheet holds such signs: \\x1b[m\\xff\n{BEYOND}    It should hold: B<tab>X<tab>Y<tab>s\n"),
-    (WHOLE.replace(b"\n", b"\r\n"), "refused by 10: line 1 is bad: D\\t1\\r\n    In it \\t is a tab and \\r is a carriage return.\n"
-     "    Editors on Windows end lines with a carriage return. This takes them out: tr -d '\\r' < old.sheet > new.sheet\n    It should hold: D<tab>d\n"),
-    (WHOLE.replace(b"\n", b"\r"), "refused by 10: line 1 is bad, and no line end follows it: " + repr(WHOLE.replace(b"\n", b"\r"))[2:-1] + "\n"
-     "    In it \\t is a tab and \\r is a carriage return.\n    It should hold: D<tab>d\n"),
-    (WHOLE.replace(b"\t", b" "), "refused by 10: line 1 is bad: D 1\n"
-     "    It has blanks, and only tabs part fields. This exchanges them: tr -s ' ' '\\t' < old.sheet > new.sheet\n    It should hold: D<tab>d\n"
-     "    One tab parts the fields, and a line end follows each line. A number is whole, with no plus and no zero before it.\n"
-     "    It is from -2,147,483,648 to 2,147,483,647, and only X, Y and a coefficient may be negative.\n"),
-    (written(*START) + b"T\t0\t0\t1 \n", "refused by 10: line 5 is bad: T\\t0\\t0\\t1 \n    In it \\t is a tab.\n"
-     "    A blank or a tab stands before the first field or after the last one, where none belongs.\n    It should hold: T<tab>i<tab>j<tab>coefficient\n"),
-    (written(*START, "T 0 0 -36.5"), "refused by 10: line 5 is bad: T\\t0\\t0\\t-36.5\n    In it \\t is a tab.\n    No sheet holds such signs: .\n"
-     "    It should hold: T<tab>i<tab>j<tab>coefficient\n"),
-    (WHOLE.lower(), "refused by 10: line 1 is bad: d\\t1\n    In it \\t is a tab.\n    No sheet holds such signs: d\n    It should hold: D<tab>d\n"),
-    (b"\xef\xbb\xbf" + WHOLE, "refused by 10: line 1 is bad: \\xef\\xbb\\xbfD\\t1\n    In it \\t is a tab.\n"
-     f"    No sheet holds such signs: \\xef\\xbb\\xbf\n{BEYOND}    It should hold: D<tab>d\n"),
-    (written(*START, "T 0 0 " + "9" * 5000), "refused by 10: line 5 is bad: T\\t0\\t0\\t" + "9" * 51 + "... (5,006 bytes)\n"),
+    *((text, "\n    ".join([advice.SAID, *told])) for text, told in advice.TOLD),
+    *((text, "\n    ".join([f"refused by {number}: {first}", *more])) for text, number, first, *more in script_words.TOLD),
+    *((text, "\n".join(script_faults.told(text))) for text, _ in script_words.COMMANDED),
     (b"\n" * 8193, "refused by 11: the text is longer than 8,192 bytes"),
     (b"x" * 100_000, "refused by 11: the text is longer than 8,192 bytes"),
 ]
+# a text, and the line of its refusal
+LISTED = [(b"", b"refused\t14\t1\t0\n"), (WHOLE.replace(b"-1", b"+1"), b"refused\t16\t5\t4\n"), (WHOLE[:-1], b"refused\t20\t6\t0\n"),
+          (written("D 9", *START[1:]), b"refused\t1\t0\t0\n")]
 
 
 def run(*words, given=b"", **more):
@@ -118,10 +98,11 @@ def command_checks():
     """The script as a person runs it: what is tried, and whether it is as it should be."""
     yield "the whole case", run("-", given=WHOLE) == (0, PICTURE.encode(), "")
     yield "the whole case, listed", run("--list", "-", given=WHOLE) == (0, WHOLE_LISTING, "")
-    yield "a refusal, listed", run("--list", "-", given=b"") == (1, b"refused\t10\t1\n", "")
+    for text, line in LISTED:
+        yield f"a refusal, listed: {line}", run("--list", "-", given=text) == (1, line, "")
     for text, words in REFUSALS:
         status, out, err = run("-", given=text)
-        yield f"{text[:80]!r} is refused in words", (status, out) == (1, b"") and err.startswith(f"standard input: {words}")
+        yield f"{text[:80]!r} is refused in words", (status, out, err) == (1, b"", f"standard input: {words}\n")
     with tempfile.TemporaryDirectory() as folder:
         file = pathlib.Path(folder) / "of no sheet"
         yield "a file that is not there", run(file) == (2, b"", "sheet: of no sheet cannot be read: No such file or directory\n")
@@ -199,7 +180,7 @@ def small_tree(tree):
     """What the script needs, in a tree of its own, with a stand-in for rt that ends as it is told and notes that it ran."""
     for place in ("crates/listing/src", "tests", "target/bin", "target/stamp", "rt"):
         (tree / place).mkdir(parents=True)
-    modules = ("in_words", "program", "too_heavy", "whole_file")
+    modules = ("fault_words", "in_words", "line_forms", "number_words", "program", "too_heavy", "whole_file")
     for name in ("sheet", *(f"tests/{module}.py" for module in modules), "crates.txt", "crates/listing/src/main.rt"):
         shutil.copy(ROOT / name, tree / name)
     (tree / "rt" / "rt").write_text(STAND_IN)
@@ -313,7 +294,7 @@ def main():
     for words, *_ in PROGRAMS.values():
         run(*words, given=WHOLE)  # where a source is newer than the program, this proves and builds it
     checks = [*command_checks(), *unwritten_checks(), *build_checks("listing"), *build_checks("picture"), *function_checks(),
-              *advice.checks(module()), *script_pictures.checks(run, module(), REFUSALS), *readme_checks()]
+              *script_faults.checks(), *advice.checks(module()), *script_pictures.checks(run, module(), REFUSALS), *readme_checks()]
     untried = devices.left_out(checks, chosen)
     wrong = [(name, good) for name, good in checks if good is not True and (name, good) not in untried]
     for name, good in wrong:

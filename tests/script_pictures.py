@@ -46,7 +46,7 @@ def picture_checks(run, refusals):
     yield "a file, for a printer", run("--pbm", NODE) == (0, second_pbm.picture_text(NODE.read_bytes()), "")
     for number, (text, words) in {words.split(":")[0]: (text, words) for text, words in reversed(refusals)}.items():
         status, out, err = run("--pbm", "-", given=text)
-        yield f"no picture for a printer: {number}", (status, out) == (1, b"") and err.startswith(f"standard input: {words}")
+        yield f"no picture for a printer: {number}", (status, out, err) == (1, b"", f"standard input: {words}\n")
 
 
 # ---- files

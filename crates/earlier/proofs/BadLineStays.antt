@@ -2,19 +2,18 @@
 use mathlib.Core.Path.{_≡_, refl, sym, _∙_, ap}
 use mathlib.Core.Bool.{Bool, true, false, not, _&&_, _||_, cond}
 use mathlib.Core.List.{List, [], _∷_, _++_, map}
-use Prim.Native.Nat.{ℕ, zero, suc, _+_, _≤_}
+use Prim.Native.Nat.{ℕ, zero, suc, _+_}
 use native.Mathlib.Omega.{arith}
 use borrow.Author.Tests.{eqb-true, eqb-false, eq-eqb, ne-eqb, ltb-true, ltb-false, leb-true, le-leb, lt-leb}
 use lib.Dec.{leb, ltb, eqb}
 use lib.IntN.{ℤ}
 use lib.ListN.{length, getD, drop}
 use Rattle.page.specs.Refusals.{refusal, unless}
-use Rattle.page.specs.SheetLine.{Line, lines, fields, is-written, is-within, worth, signed, unsigned, is-letter, letter-field, number-fields, reads-well, Trial, _at-field_when_, field-faults, number-faults, line-faults, Numbers, faulty, good, first-fault, worths, line-numbers, number-at, whole-at}
-use Rattle.page.specs.SheetText.{Term, term-of, is-named, is-beyond, Said, Text, bad-line, well-formed, with-line, line-then, with-terms, term-faults, term-numbers, terms-from, text-of, to-read, Outcome, refused, accepted, outcome-of, outcome}
+use Rattle.page.specs.SheetLine.{Line, lines, fields, is-written, is-within, worth, signed, unsigned, is-letter, letter-field, number-fields, reads-well, Trial, _at-field_when_, field-faults, number-faults, line-faults, Numbers, faulty, good, first-fault, worths, line-numbers}
+use Rattle.page.specs.SheetText.{Term, term-of, is-named, is-beyond, Said, Text, bad-line, well-formed, with-line, line-then, with-terms, term-numbers, terms-from, text-of, to-read, Outcome, refused, accepted, outcome-of, outcome}
 use Rattle.page.proofs.ReadFacts.{read-never}
 use Rattle.page.proofs.TextWalk.{fault-numbered}
 use Rattle.page.proofs.TextFaults.{fault-placed}
-use Rattle.reading.specs.declared.Reading.{Reading}
 use Rattle.reading.specs.Answers.{reading-of, reading}
 use Rattle.earlier.specs.BadLine.{TenNumbers, ten-bad, ten-good, with-first, ten-numbers, ten-after-letter, ten-line-numbers, is-admitted, when-admitted, ten-term-numbers, TenText, ten-with-line, ten-line-then, ten-terms-from, ten-text-of, ten-refused, ten-accepted, ten-outcome-of, ten-outcome}
 use Rattle.earlier.specs.BadLineStays.{line-as-ten, SameLine, SameTerm, text-as-ten, SameText, as-ten, SameOutcome, SheetSame, AcceptedBefore, RefusedSame, RefusalSame}

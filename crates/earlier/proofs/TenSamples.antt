@@ -1,7 +1,6 @@
 -- A text before #105 at bytes: what was good, and what 10 refused.
 use mathlib.Core.Path.{_≡_, refl}
-use mathlib.Core.List.{List, [], _∷_, _++_, flatMap}
-use Prim.Native.Nat.{ℕ}
+use mathlib.Core.List.{[], _∷_, _++_, flatMap}
 use lib.IntN.{pos, negsuc}
 use lib.ListN.{replicate}
 use Rattle.algebra.specs.Sum.{sumℕ, run, span, _⋯_}

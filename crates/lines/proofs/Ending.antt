@@ -2,7 +2,7 @@
 use mathlib.Core.Path.{_≡_, refl, sym, _∙_, ap, subst}
 use mathlib.Core.Bool.{Bool, true, false, and-true, and-false}
 use mathlib.Core.List.{List, [], _∷_}
-use Prim.Native.Nat.{ℕ, zero, suc, _+_, _-_, _≤_, _<_}
+use Prim.Native.Nat.{ℕ, zero, suc, _+_, _-_, _≤_, _<_, min}
 use native.Mathlib.Nat as Nat
 use native.Mathlib.Numerals.{add-one}
 use native.Mathlib.Omega.{arith}
@@ -18,7 +18,7 @@ use Rattle.lines.proofs.Parting.{some-field, fields-after, Finds, next-
 -- count fields, of which the last ends at `at`, and the ends of the first four
 pub record Ending (line ends : List ℕ) (at count : ℕ) : Type 0 where
   pub within : at ≤ length line
-  pub few : count ≤ at + 1
+  pub few : count ≤ 4
   pub four : length ends ≡ 4
   pub left : drop count (fields line) ≡ fields-after line at
   pub all : length (fields line) ≡ count + length (fields-after line at)
@@ -55,28 +55,28 @@ module _ (line : List ℕ) where
 
   module _ {ends : List ℕ} {at count : ℕ} (k : Ending line ends at count) where
     -- one more field, which ends at `end`
-    module _ (h : at < length line) {end : ℕ} (f : Finds 9 line (at + 1) end) where
+    module _ (h : at < length line) (g : count < 4) {end : ℕ} (f : Finds 9 line (at + 1) end) where
       more : fields-after line at ≡ take (end - (at + 1)) (drop (at + 1) line) ∷ fields-after line end
       more = rw (lt-ltb at (length line) h) (next-field line (at + 1) end f)
 
-      last : count < 4 → Stands line count (start-of (set ends count end) count) (getD (set ends count end) count 0)
-      last l = rw (start-stays ends count count end (Nat.le-refl count), k .next l, getD-set-same ends count end 0 (omega (arith, k .four))) (stands-first f (k .left ∙ more))
+      last : Stands line count (start-of (set ends count end) count) (getD (set ends count end) count 0)
+      last = rw (start-stays ends count count end (Nat.le-refl count), k .next g, getD-set-same ends count end 0 (omega (arith, k .four))) (stands-first f (k .left ∙ more))
 
       stands : (i : ℕ) → i < 4 → i < count + 1 → Stands line i (start-of (set ends count end) i) (getD (set ends count end) i 0)
       stands i l m = by (ltb i count) refl
         where
           by : (b : Bool) → ltb i count ≡ b → Stands line i (start-of (set ends count end) i) (getD (set ends count end) i 0)
-          by true e = let g = ltb-true i count e in rw (start-stays ends i count end (omega arith), getD-set-other ends count i end 0 (λ q. omega arith)) (k .each i l g)
+          by true e = let o = ltb-true i count e in rw (start-stays ends i count end (omega arith), getD-set-other ends count i end 0 (λ q. omega arith)) (k .each i l o)
           by false e =
-              let g = ltb-false i count e in let q : count ≡ i = omega arith in
-              subst (λ n. Stands line n (start-of (set ends count end) n) (getD (set ends count end) n 0)) q (last (omega arith))
+              let o = ltb-false i count e in let q : count ≡ i = omega arith in
+              subst (λ n. Stands line n (start-of (set ends count end) n) (getD (set ends count end) n 0)) q last
 
       pub ending-next : Ending line (set ends count end) end (count + 1)
       ending-next =
           let e = more in
           record {
             within = f .within;
-            few = omega (arith, f .at);
+            few = omega arith;
             four = length-set ends count end ∙ k .four;
             left = sym (drop-drop 1 count (fields line)) ∙ ap (drop 1) (k .left ∙ e);
             all = k .all ∙ ap (λ fs. count + length fs) e ∙ omega arith;
@@ -87,8 +87,14 @@ module _ (line : List ℕ) where
     -- no field is left
     pub ending-end : at ≡ length line → Parts line (record { count = count; ends = ends })
     ending-end h =
-        let e : fields-after line at ≡ [] = rw (le-ltb at (length line) (omega arith)) in
-        record { count = sym (k .all ∙ ap (λ fs. count + length fs) e ∙ omega arith); four = k .four; each = k .each }
+        let e : fields-after line at ≡ [] = rw (le-ltb at (length line) (omega arith)) in let l = k .all ∙ ap (λ fs. count + length fs) e in
+        record { count = omega (arith, k .few); four = k .four; each = k .each }
+
+    -- four fields, and another one
+    pub ending-more : at < length line → count ≡ 4 → Parts line (record { count = 5; ends = ends })
+    ending-more h q =
+        let e : fields-after line at ≡ fields (drop (at + 1) line) = rw (lt-ltb at (length line) h) in let l = k .all ∙ ap (λ fs. count + length fs) e in let s = some-field (drop (at + 1) line) in
+        record { count = omega arith; four = k .four; each = λ i j m. k .each i j (omega arith) }
 
 -- ---- the parts of a line: its letter, and its numbers
 abbrev pub numbers-in : List ℕ → List (List ℕ)
@@ -101,7 +107,7 @@ module _ {line : List ℕ} {r : Parted} (p : Parts line r) where
   pub letter-bytes : getD (fields line) 0 [] ≡ take (getD (r .ends) 0 0) line
   letter-bytes = let s : getD (r .ends) 0 0 - 0 ≡ getD (r .ends) 0 0 = omega arith in letter-stands .bytes ∙ ap (λ n. take n line) s
 
-  pub numbers-count : r .count ≡ length (numbers-in line) + 1
+  pub numbers-count : r .count ≡ min (length (numbers-in line) + 1) 5
   numbers-count = omega (arith, p .count, some-field line, length-drop 1 (fields line))
 
   module _ (i : ℕ) (h : i < 3) (l : i + 1 < r .count) where

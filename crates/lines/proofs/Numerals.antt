@@ -1,15 +1,15 @@
 -- Numbers as they are written, byte by byte.
 use mathlib.Core.Path.{_≡_, refl, sym, _∙_, ap}
-use mathlib.Core.Bool.{Bool, true, false, not, _&&_, _||_, cond, and-true, and-false, or-true}
+use mathlib.Core.Bool.{Bool, true, false, not, _&&_, _||_, cond, and-true, and-false, or-true, false≢true}
 use mathlib.Core.List.{List, [], _∷_}
-use Prim.Native.Nat.{ℕ, zero, suc, _+_, _-_, _^_, _≤_, _<_, min}
+use Prim.Native.Nat.{ℕ, zero, suc, _+_, _*_, _-_, _^_, _≤_, _<_, min}
 use native.Mathlib.Omega.{arith}
 use borrow.Rule.Slice.PartAt.{part-to-end}
-use borrow.Author.Tests.{ltb-true, ltb-false, lt-ltb, le-ltb, eq-eqb, ne-eqb}
+use borrow.Author.Tests.{leb-true, ltb-true, ltb-false, lt-ltb, le-ltb, eq-eqb, ne-eqb}
 use mir.Syntax.{w32}
 use mir.Val.{toZ, ofZ}
 use mir.Facts.{toZ-neg, toZ-ofZ}
-use lib.Dec.{ltb, eqb}
+use lib.Dec.{leb, ltb, eqb}
 use lib.IntN.{ℤ, pos, negsuc, negℤ, natAbs}
 use lib.ListN.{length, getD, take, drop}
 use lib.Seq.{drop-length}
@@ -17,7 +17,7 @@ use lib.Signed.{mag}
 use Rattle.page.proofs.Amounts.{all-step}
 use Rattle.page.specs.SheetLine.{is-digit, all-digits, is-empty, is-decimal, amount, is-minus, without-sign, is-within}
 use Rattle.lines.specs.declared.Number.the-variants as Number
-use Rattle.lines.specs.Steps.{number-in, signless-in, minus-in}
+use Rattle.lines.specs.Steps.{number-in, single-in, signless-in, minus-in}
 
 -- ---- digits only: a byte that is no digit settles it; after one that is the rest decides
 pub all-found : (l : List ℕ) (i : ℕ) → all-digits l ≡ all-digits (drop i l) → i < length l → {r : Bool} → r ≡ is-digit (getD l i 0) → r ≡ false → false ≡ all-digits l
@@ -92,6 +92,39 @@ above negative n = by (ltb n 2147483648) refl ∙ sym (within negative)
 pub signless-case : (negative : Bool) (f : List ℕ) → is-minus f ≡ false → is-decimal (without-sign f) ≡ true → signless-in (min (amount 0 (without-sign f)) (2 ^ 32)) ≡ number-in negative f
 unfolding number-in
 signless-case negative f s d = ap (λ g. signless-in (min (amount 0 g) (2 ^ 32))) (no-sign f s) ∙ above negative (amount 0 f) ∙ rw (s, d)
+
+-- ---- one byte: a digit, or no number
+pub digit-range : (b : ℕ) → is-digit b ≡ true → (48 ≤ b) × (b ≤ 57)
+digit-range b d = let (x, y) = parts (leb 48 b) (leb b 57) d in (leb-true 48 b x, leb-true b 57 y)
+  where
+    parts : (x y : Bool) → x && y ≡ true → (x ≡ true) × (y ≡ true)
+    parts true y e = (refl, e)
+    parts false y e = absurd (false≢true e)
+
+single-digit : (negative : Bool) (b : ℕ) → is-digit b ≡ true → single-in b ≡ number-in negative (b ∷ [])
+unfolding all-digits amount
+single-digit negative b d =
+    let (h, k) = digit-range b d in
+    let s : eqb b 45 ≡ false = ne-eqb b 45 (λ q. omega arith) in let w : is-decimal (without-sign (b ∷ [])) ≡ true = rw (s, d) (or-true (not (eqb b 48))) in
+    let m : min (10 * 0 + (b - 48)) 4294967296 ≡ b - 48 = omega arith in
+    rw d (sym (ap signless-in m ∙ rw (le-ltb 2147483647 (b - 48) (omega arith))) ∙ ap (λ g. signless-in (min (amount 0 g) (2 ^ 32))) (sym (no-sign (b ∷ []) s)) ∙ signless-case negative (b ∷ []) s w)
+
+single-none : (negative : Bool) (b : ℕ) → is-digit b ≡ false → single-in b ≡ number-in negative (b ∷ [])
+unfolding all-digits
+single-none negative b d = rw d (malformed negative (b ∷ []) (by (eqb b 45)))
+  where
+    by : (t : Bool) → is-decimal (cond t [] (b ∷ [])) ≡ false
+    by true = refl
+    by false = rw d
+
+pub one-byte : (negative : Bool) (f : List ℕ) → length f ≡ 1 → single-in (getD f 0 0) ≡ number-in negative f
+one-byte negative [] h = absurd (omega arith)
+one-byte negative (b ∷ []) h = by (is-digit b) refl
+  where
+    by : (t : Bool) → is-digit b ≡ t → single-in b ≡ number-in negative (b ∷ [])
+    by true d = single-digit negative b d
+    by false d = single-none negative b d
+one-byte negative (b ∷ c ∷ f) h = absurd (omega arith)
 
 -- ---- by its first byte
 pub no-minus : (f : List ℕ) → length f ≡ 0 → false ≡ is-minus f

@@ -2,11 +2,11 @@
 use mathlib.Core.Path.{_≡_}
 use mathlib.Core.Bool.{Bool, _&&_, cond}
 use mathlib.Core.List.{List, [], _∷_}
-use Prim.Native.Nat.{ℕ, zero, suc, _+_, _-_, _≤_, _<_}
+use Prim.Native.Nat.{ℕ, zero, suc, _+_, _-_, _≤_, _<_, min}
 use lib.Dec.{ltb, eqb}
 use lib.IntN.{ℤ, pos, negℤ}
 use lib.ListN.{length, getD, take, drop, replicate}
-use Rattle.page.specs.SheetLine.{Line, lines, fields, is-written, is-within, worth, is-letter, letter-field, number-fields, reads-well, fault, Numbers, faulty, good, worths, line-numbers}
+use Rattle.page.specs.SheetLine.{Line, lines, fields, is-digit, is-written, is-within, worth, is-letter, letter-field, number-fields, reads-well, fault, Numbers, faulty, good, worths, line-numbers}
 use Rattle.lines.specs.declared.Number.{Number}
 use Rattle.lines.specs.declared.Number.the-variants as Number
 use Rattle.lines.specs.declared.Parted.{Parted}
@@ -17,13 +17,17 @@ use Rattle.lines.specs.declared.Taken.{Taken}
 unfoldable pub number-in : Bool → List ℕ → Number
 number-in negative f = cond (is-written f) (cond (is-within negative (worth f)) (Number.Whole (worth f)) Number.Outside) Number.Malformed
 
+-- a field of one byte
+abbrev pub single-in : ℕ → Number
+single-in b = cond (is-digit b) (Number.Whole (pos (b - 48))) Number.Malformed
+
 abbrev pub signless-in : ℕ → Number
 signless-in n = cond (ltb 2_147_483_647 n) Number.Outside (Number.Whole (pos n))
 
 abbrev pub minus-in : Bool → ℕ → Number
 minus-in negative n = cond (eqb n 0) Number.Malformed (cond negative (cond (ltb 2_147_483_648 n) Number.Outside (Number.Whole (negℤ (pos n)))) Number.Outside)
 
--- ---- `part`: field i, from 0, stands from after the end of the one before it
+-- ---- `part`: field i, from 0, stands from after the end of the one before it; fields are counted up to 5
 abbrev pub start-of : List ℕ → ℕ → ℕ
 start-of ends zero = 0
 start-of ends (suc i) = getD ends i 0 + 1
@@ -34,7 +38,7 @@ pub record Stands (line : List ℕ) (i from end : ℕ) : Type 0 where
   pub within : end ≤ length line
 
 pub record Parts (line : List ℕ) (r : Parted) : Type 0 where
-  pub count : r .count ≡ length (fields line)
+  pub count : r .count ≡ min (length (fields line)) 5
   pub four : length (r .ends) ≡ 4
   pub each : (i : ℕ) → i < 4 → i < r .count → Stands line i (start-of (r .ends) i) (getD (r .ends) i 0)
 

@@ -4,7 +4,7 @@ ghost use mathlib.Core.Path.{_≡_};
 ghost use mathlib.Core.Bool.{true, cond};
 ghost use Prim.Native.Nat.{_^_, min};
 ghost use Rattle.page.specs.SheetLine.{is-digit, is-decimal, is-minus, all-digits, amount};
-ghost use Rattle.lines.specs.Steps.{number-in, signless-in, minus-in};
+ghost use Rattle.lines.specs.Steps.{number-in, single-in, signless-in, minus-in};
 
 // A byte's number.
 fn wide(byte: u8) -> u64
@@ -117,10 +117,23 @@ fn below_zero(n: u64, negative: bool) -> Number
     Number::Whole(!((n - 1) as i32))
 }
 
+// What a field of one byte holds: a digit is its own number.
+fn single(byte: u8) -> Number
+    ensures { λ r. ⌜ r ≡ single-in byte ⌝ }
+{
+    if !digit(byte) {
+        return Number::Malformed;
+    }
+    Number::Whole((byte - 48) as i32)
+}
+
 // What the field holds, where `negative` says whether it may be negative.
 pub fn number(field: &[u8], negative: bool) -> Number
     ensures { λ r. ⌜ r ≡ number-in negative (now (field .entry)) ⌝ }
 {
+    if field.len() == 1 {
+        return single(field[0]);
+    }
     let sign = minus(field);
     let from = start(sign);
     let digits = &field[from..];

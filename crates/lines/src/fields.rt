@@ -6,7 +6,7 @@ ghost use Rattle.lines.specs.Steps.{Parts};
 
 const TAB: u8 = 9;
 
-// How many fields there are, and where the first four end.
+// How many fields there are, 5 where there are more than four, and where the first four end.
 pub fn part(line: &[u8]) -> Parted
     ensures { λ r. ⌜ Parts (now (line .entry)) r ⌝ }
 {
@@ -16,10 +16,11 @@ pub fn part(line: &[u8]) -> Parted
     ends[0] = at;
     let mut count = 1;
     while at < n {
-        at = bytes::scan::find(line, at + 1, n, TAB);
-        if count < 4 {
-            ends[count] = at;
+        if count == 4 {
+            return Parted { count: 5, ends };
         }
+        at = bytes::scan::find(line, at + 1, n, TAB);
+        ends[count] = at;
         count += 1;
     }
     Parted { count, ends }

@@ -13,7 +13,7 @@ enum Number {
     Malformed,
 }
 
-// How many fields a line has, and where the first four of them end.
+// How many fields a line has, 5 where it has more than four, and where the first four end.
 struct Parted {
     pub count: usize,
     pub ends: [usize; 4],

@@ -1,13 +1,10 @@
 -- `lines::fields::part` meets its contract: tab by tab.
-use mathlib.Core.Path.{_≡_, sym, _∙_}
-use mathlib.Core.Logic.{inl, inr}
 use Prim.Native.Nat.{_-_, _+_}
 use native.Mathlib.Omega.{arith}
 use borrow.Author.Needs.{needs}
-use lib.ListN.{length, set}
-use lib.Seq.{set-out}
+use lib.ListN.{length}
 use Rattle.lines.proofs.Parting.{Finds, finds}
-use Rattle.lines.proofs.Ending.{Ending, ending-start, ending-next, ending-end}
+use Rattle.lines.proofs.Ending.{Ending, ending-start, ending-next, ending-end, ending-more}
 use Rattle.lines.proofs.fields.part.Statement.{statement}
 use Rattle.lines.proofs.fields.part.Tie as tie
 
@@ -21,15 +18,8 @@ abbrev μ-loop : tie.MeasureT-loop
 found : (c : tie.After-find Inv-loop μ-loop) → Finds 9 (c .before .before .args .line .now) 0 (c .find .result)
 found c = finds 9 (c .before .before .args .line .now) 0 (c .find .ensures .0) (c .find .ensures .1) (omega arith)
 
-found-next : (c : tie.After-find2 Inv-loop μ-loop) → let l = c .before .before in Finds 9 (l .before .before .before .args .line .now) (l .loop .at + 1) (c .find2 .result)
-found-next c = let l = c .before .before in finds 9 (l .before .before .before .args .line .now) (l .loop .at + 1) (c .find2 .ensures .0) (c .find2 .ensures .1) (omega arith)
-
--- its end is put in, where it is one of the first four
-put-in : (c : tie.Joined1 Inv-loop μ-loop) → let l = c .before .before .before .loop in c .if1 .ends ≡ set (l .ends) (l .count) (c .before .find2 .result)
-put-in c = let l = c .before .before .before .loop in elim (c .if1 .came) [
-  | inl h ↦ h .1
-  | inr h ↦ h .1 ∙ sym (set-out (l .ends) (l .count) (c .before .find2 .result) (omega (arith, l .inv .four, h .0 .left)))
-]
+found-next : (c : tie.After-find2 Inv-loop μ-loop) → let l = c .before .before .before in Finds 9 (l .before .before .before .args .line .now) (l .loop .at + 1) (c .find2 .result)
+found-next c = let l = c .before .before .before in finds 9 (l .before .before .before .args .line .now) (l .loop .at + 1) (c .find2 .ensures .0) (c .find2 .ensures .1) (omega arith)
 
 find-requires : tie.Need-find-requires Inv-loop μ-loop
 find-requires c κs = search needs
@@ -39,6 +29,9 @@ array-write-ends c = search needs
 
 loop-holds : tie.Need-loop-holds Inv-loop μ-loop
 loop-holds c = ending-start _ (found c)
+
+returns : tie.Need-returns Inv-loop μ-loop
+returns c = ending-more _ (c .before .before .loop .inv) (omega arith) (c .if1 .taken)
 
 add-find : tie.Need-add-find Inv-loop μ-loop
 add-find c = omega arith
@@ -56,13 +49,13 @@ add-count : tie.Need-add-count Inv-loop μ-loop
 add-count c = omega arith
 
 loop-less : tie.Need-loop-less Inv-loop μ-loop
-loop-less c = let f = found-next (c .before) in omega (arith, f .at)
+loop-less c = let f = found-next c in omega (arith, f .at)
 
 loop-again : tie.Need-loop-again Inv-loop μ-loop
-loop-again c = let l = c .before .before .before .loop in rw (put-in c) (ending-next _ (l .inv) (omega arith) (found-next (c .before)))
+loop-again c = let e = c .before in let l = e .before .before .loop in ending-next _ (l .inv) (omega arith) (omega (arith, l .inv .few, e .if1 .left)) (found-next c)
 
-returns : tie.Need-returns Inv-loop μ-loop
-returns c = ending-end _ (c .before .loop .inv) (omega arith)
+returns-2 : tie.Need-returns-2 Inv-loop μ-loop
+returns-2 c = ending-end _ (c .before .loop .inv) (omega arith)
 
 pub part-spec : {M : Type 1} → statement M
 part-spec =
@@ -73,6 +66,7 @@ part-spec =
     find-requires
     array-write-ends
     loop-holds
+    returns
     add-find
     find-requires-2
     mul-ends
@@ -80,4 +74,4 @@ part-spec =
     add-count
     loop-less
     loop-again
-    returns)
+    returns-2)

@@ -2,7 +2,7 @@
 use mathlib.Core.Path.{_≡_, refl, sym, _∙_, ap, ap₂}
 use mathlib.Core.Bool.{true, false}
 use mathlib.Core.List.{[]}
-use Prim.Native.Nat.{_+_, _-_, _<_}
+use Prim.Native.Nat.{_+_, _-_, _<_, min}
 use native.Mathlib.Omega.{arith}
 use borrow.Author.Needs.{needs}
 use borrow.Author.Tests.{not-true, not-false}
@@ -31,7 +31,7 @@ letter-is c = c .letter-alone .ensures ∙ ap (is-letter _) (sym (letter-bytes (
 letter-right : (c : tie.Else1 Inv-loop μ-loop) → let s = c .before .before .before .before .before .before in is-letter (s .args .letter) (getD (fields (s .args .line .now)) 0 []) ≡ true
 letter-right c = sym (letter-is (c .before)) ∙ not-false _ (c .if1 .left)
 
-count-is : (c : tie.Else1 Inv-loop μ-loop) → let p = c .before .before .before .before in p .part .result .count ≡ length (numbers-in (p .before .before .args .line .now)) + 1
+count-is : (c : tie.Else1 Inv-loop μ-loop) → let p = c .before .before .before .before in p .part .result .count ≡ min (length (numbers-in (p .before .before .args .line .now)) + 1) 5
 count-is c = numbers-count (c .before .before .before .before .part .ensures)
 
 -- where the next number stands, and what it is
