@@ -58,6 +58,19 @@ def counts():
     return os.uname().machine == "x86_64" and shutil.which("valgrind") is not None
 
 
+def logged(program, given):
+    """The instructions of a run under the kit's emulator, which writes a line for each; what the loader takes is among them."""
+    emulator, *words = command(program)
+    log = subprocess.Popen([emulator, "-one-insn-per-tb", "-d", "exec,nochain", "-D", "/dev/stderr", *words],
+                           stdin=subprocess.PIPE, stdout=subprocess.DEVNULL, stderr=subprocess.PIPE, env=settings())
+    with log.stdin as stdin:  # less than a pipe holds, so that nobody waits for anybody
+        stdin.write(given)
+    count = sum(block.count(b"\n") for block in iter(lambda: log.stderr.read(1 << 20), b""))
+    if log.wait() != 0:
+        sys.exit(f"bench: {program.name} ended with status {log.returncode} under the emulator")
+    return count
+
+
 def under_valgrind(program, given, *words):
     """What valgrind says of a run of the program on the bytes."""
     run = subprocess.run(["valgrind", *words, *command(program)], input=given, stdout=subprocess.DEVNULL, stderr=subprocess.PIPE, env=settings())
@@ -68,6 +81,8 @@ def under_valgrind(program, given, *words):
 
 def instructions(program, given):
     """The instructions of a run."""
+    if os.uname().machine != "x86_64":
+        return logged(program, given)
     said = under_valgrind(program, given, "--tool=callgrind", "--callgrind-out-file=/dev/null")
     return int(re.search(r"Collected : (\d+)", said)[1])
 
