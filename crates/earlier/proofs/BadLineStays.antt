@@ -15,8 +15,8 @@ use Rattle.page.proofs.ReadFacts.{read-never}
 use Rattle.page.proofs.TextWalk.{fault-numbered}
 use Rattle.page.proofs.TextFaults.{fault-placed}
 use Rattle.reading.specs.Answers.{reading-of, reading}
-use Rattle.earlier.specs.BadLine.{TenNumbers, ten-bad, ten-good, with-first, ten-numbers, ten-after-letter, ten-line-numbers, is-admitted, when-admitted, ten-term-numbers, TenText, ten-with-line, ten-line-then, ten-terms-from, ten-text-of, ten-refused, ten-accepted, ten-outcome-of, ten-outcome}
-use Rattle.earlier.specs.BadLineStays.{line-as-ten, SameLine, SameTerm, text-as-ten, SameText, as-ten, SameOutcome, SheetSame, AcceptedBefore, RefusedSame, RefusalSame}
+use Rattle.earlier.specs.BadLine.{TenNumbers, ten-bad, ten-good, with-first, ten-numbers, ten-after-letter, is-admitted, ten-term-numbers, TenText, ten-bad-line, ten-with-line, ten-line-then, ten-terms-from, ten-text-of, ten-refused, ten-accepted, ten-outcome-of, ten-outcome}
+use Rattle.earlier.specs.BadLineStays.{line-as-ten, SameLine, when-admitted, SameTerm, text-as-ten, SameText, as-ten, SameOutcome, SheetSame, AcceptedBefore, RefusedSame, RefusalSame}
 
 -- ---- whether no trial holds: then the line has its numbers
 abbrev clear : List Trial → Bool
@@ -98,7 +98,7 @@ was-good letter ns (g ∷ fs) e = by (is-letter letter g) (eqb (length fs) (leng
     by false b c false h = refl
 
 pub same-line : SameLine
-unfolding line-numbers ten-line-numbers
+unfolding line-numbers
 same-line letter ns l = was-good letter ns (fields (l .bytes)) (l .ended) ∙ sym (line-told letter (length ns) (number-faults 2 ns (number-fields l)) l (worths l))
 
 -- ---- a term's line: admitted was what is neither beyond the degree nor given before
@@ -186,7 +186,7 @@ module _ (d : ℕ) (ts : List Term) where
       by true true c x e h = let zs = map worth (drop 1 gs) in ap (λ r. good-when r zs) (last-two c e x) ∙ ap (λ r. good-when (r && e) zs) (h refl)
 
 pub same-term : SameTerm
-unfolding line-numbers ten-line-numbers term-numbers ten-term-numbers
+unfolding term-numbers
 same-term d ts l = term-was-good d ts (fields (l .bytes)) (l .ended) ∙ sym (line-told 84 3 (between d ts (number-fields l)) l (worths l))
 
 -- ---- a text, line by line
@@ -197,6 +197,15 @@ line-same : (n : ℕ) {t : TenNumbers} (m : Numbers) {f : List ℤ → TenText} 
 line-same n (faulty e) {f} h k = record { same = ap (λ t. ten-with-line n t f) h }
 line-same n (good zs) {f} h k = record { same = ap (λ t. ten-with-line n t f) h ∙ k zs .same }
 
+-- a term that was not admitted made its line bad
+admitted-later : (n d : ℕ) (ts : List Term) (t : TenNumbers) (f : List ℤ → TenText) → ten-with-line n t (λ zs. cond (is-admitted d ts (term-of zs)) (f zs) (ten-bad-line n)) ≡ ten-with-line n (when-admitted d ts t) f
+admitted-later n d ts ten-bad f = refl
+admitted-later n d ts (ten-good zs) f = by (is-admitted d ts (term-of zs))
+  where
+    by : (b : Bool) → cond b (f zs) (ten-bad-line n) ≡ ten-with-line n (cond b (ten-good zs) ten-bad) f
+    by true = refl
+    by false = refl
+
 then-same : (n letter : ℕ) (ns : List Bool) (ls : List Line) {f : List ℤ → List Line → TenText} {g : List ℤ → List Line → Text}
     → ((zs : List ℤ) (ls : List Line) → Same (f zs ls) (g zs ls)) → Same (ten-line-then n letter ns ls f) (line-then n letter ns ls g)
 then-same n letter ns [] k = record { same = refl }
@@ -205,7 +214,11 @@ then-same n letter ns (l ∷ ls) k = line-same n (line-numbers letter ns l) (sam
 terms-same : (ls : List Line) (n : ℕ) (w : Said) → Same (ten-terms-from n w ls) (terms-from n w ls)
 unfolding terms-from ten-terms-from
 terms-same [] n w = record { same = refl }
-terms-same (l ∷ ls) n w = line-same n (term-numbers (w .d) (w .terms) l) (same-term (w .d) (w .terms) l) (λ zs. terms-same ls (n + 1) (with-terms w (term-of zs ∷ w .terms)))
+terms-same (l ∷ ls) n w =
+    record {
+      same = admitted-later n (w .d) (w .terms) (ten-term-numbers l) (λ zs. ten-terms-from (n + 1) (with-terms w (term-of zs ∷ w .terms)) ls)
+          ∙ line-same n (term-numbers (w .d) (w .terms) l) (same-term (w .d) (w .terms) l) (λ zs. terms-same ls (n + 1) (with-terms w (term-of zs ∷ w .terms))) .same;
+    }
 
 four-same : (ls : List Line) → Same (ten-text-of ls) (text-of ls)
 unfolding text-of ten-text-of
@@ -251,7 +264,12 @@ unfolding reading
 sheet-same text r w h e = h ∙ ap reading-of (sheet-by (outcome text) w (sym e ∙ same-outcome text))
 
 pub accepted-before : AcceptedBefore
-accepted-before text w e = same-outcome text ∙ ap as-ten e
+unfolding reading
+accepted-before text r h z = by (outcome text) refl (sym (ap (λ r. r .refusal) h) ∙ z)
+  where
+    by : (o : Outcome) → outcome text ≡ o → reading-of o .refusal ≡ 0 → (w : Said) × (ten-outcome text ≡ ten-accepted w) × (r ≡ reading-of (accepted w))
+    by (refused n line field) e z = absurd (read-never text n line field e .not-0 z)
+    by (accepted w) e z = (w, same-outcome text ∙ ap as-ten e, h ∙ ap reading-of e)
 
 refused-by : (text : List ℕ) (o : Outcome) (n line : ℕ) → outcome text ≡ o → ten-refused n line ≡ as-ten o → RefusedSame n line (reading-of o)
 refused-by text (accepted v) n line h e = let z : _≡_ {A = ℕ} 0 1 = cc in absurd (omega arith)

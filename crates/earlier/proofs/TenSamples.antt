@@ -10,7 +10,7 @@ use Rattle.page.specs.Refusals.{table, first}
 use Rattle.page.specs.SheetLine.{lines, fields, all-digits, amount}
 use Rattle.page.specs.SheetText.{Said, in-order, refused}
 use Rattle.page.proofs.TextSamples.{whole-in}
-use Rattle.earlier.specs.BadLine.{ten-line-numbers, ten-term-numbers, ten-terms-from, ten-text-of, ten-refused, ten-accepted, ten-outcome}
+use Rattle.earlier.specs.BadLine.{ten-terms-from, ten-text-of, ten-refused, ten-accepted, ten-outcome}
 use Rattle.earlier.specs.BadLineStays.{as-ten}
 
 -- what the page's whole case says
@@ -18,7 +18,7 @@ abbrev whole : Said
 whole = record { d = 1; X = pos 0; Y = pos 0; s = 0; k = 1; mode = 0; terms = record { i = 1; j = 0; coefficient = pos 1 } ∷ record { i = 0; j = 1; coefficient = negsuc 0 } ∷ [] }
 
 was-good : ten-outcome whole-in ≡ ten-accepted whole
-unfolding sumℕ run span _⋯_ row-start weight table first lines fields all-digits amount ten-line-numbers ten-term-numbers ten-terms-from ten-text-of in-order flatMap ten-outcome
+unfolding sumℕ run span _⋯_ row-start weight table first lines fields all-digits amount ten-terms-from ten-text-of in-order flatMap ten-outcome
 was-good = refl
 
 -- ---- 11, 10 with its line, and a row of the table
@@ -42,7 +42,7 @@ were-bad :
     × (ten-outcome (whole-in ++ (84 ∷ 9 ∷ 48 ∷ 9 ∷ 57 ∷ 9 ∷ 53 ∷ 10 ∷ [])) ≡ ten-refused 10 7)
     -- `D⇥9⏎B⇥0⇥0⇥0⏎K⇥0⏎M⇥0⏎T⇥8⇥1⇥5⏎`: well formed, and refused by 1
     × (ten-outcome (68 ∷ 9 ∷ 57 ∷ 10 ∷ 66 ∷ 9 ∷ 48 ∷ 9 ∷ 48 ∷ 9 ∷ 48 ∷ 10 ∷ 75 ∷ 9 ∷ 48 ∷ 10 ∷ 77 ∷ 9 ∷ 48 ∷ 10 ∷ 84 ∷ 9 ∷ 56 ∷ 9 ∷ 49 ∷ 9 ∷ 53 ∷ 10 ∷ []) ≡ ten-refused 1 0)
-unfolding sumℕ run span _⋯_ row-start weight table first lines fields all-digits amount ten-line-numbers ten-term-numbers ten-terms-from ten-text-of in-order flatMap ten-outcome
+unfolding sumℕ run span _⋯_ row-start weight table first lines fields all-digits amount ten-terms-from ten-text-of in-order flatMap ten-outcome
 were-bad = (refl, refl, refl, refl, refl, refl, refl, refl, refl, refl, refl)
 
 -- ---- 14 to 20 for 10, and every other number as it was

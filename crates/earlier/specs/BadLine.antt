@@ -1,4 +1,4 @@
--- A sheet text before #105: a line was good or bad, and 10 was the refusal of a bad one, with its line.
+-- A sheet text before #105: a line was good or bad, and 10 was the refusal of a bad one, with its line. The words of page/specs/SheetText as they stood; lines, fields, numbers as they are written, terms and what a text says are those of today, which the request left as they were.
 use mathlib.Core.Bool.{Bool, not, _&&_, cond}
 use mathlib.Core.List.{List, [], _∷_}
 use Prim.Native.Nat.{ℕ, _+_}
@@ -31,19 +31,12 @@ ten-after-letter letter ns [] = ten-bad
 ten-after-letter letter ns (f ∷ fs) = cond (is-letter letter f) (ten-numbers ns fs) ten-bad
 
 -- an unended line is bad
-unfoldable pub ten-line-numbers : ℕ → List Bool → Line → TenNumbers
+abbrev pub ten-line-numbers : ℕ → List Bool → Line → TenNumbers
 ten-line-numbers letter ns l = cond (l .ended) (ten-after-letter letter ns (fields (l .bytes))) ten-bad
 
--- ---- `T` i j coefficient: no (i,j) twice, i + j ≤ the declared d, i and j at most 8
+-- ---- no (i,j) twice, i + j ≤ the declared d, i and j at most 8
 abbrev pub is-admitted : ℕ → List Term → Term → Bool
 is-admitted d ts t = leb (t .i + t .j) d && leb (t .i) 8 && leb (t .j) 8 && not (is-named (t .i) (t .j) ts)
-
-abbrev pub when-admitted : ℕ → List Term → TenNumbers → TenNumbers
-when-admitted d ts ten-bad = ten-bad
-when-admitted d ts (ten-good zs) = cond (is-admitted d ts (term-of zs)) (ten-good zs) ten-bad
-
-unfoldable pub ten-term-numbers : ℕ → List Term → Line → TenNumbers
-ten-term-numbers d ts l = when-admitted d ts (ten-line-numbers 84 (unsigned ∷ unsigned ∷ signed ∷ []) l)
 
 -- ---- a text was bad at a line, counted from 1, or it was well-formed
 pub data TenText : Type 0 where
@@ -59,9 +52,14 @@ abbrev pub ten-line-then : ℕ → ℕ → List Bool → List Line → (List ℤ
 ten-line-then n letter ns [] rest = ten-bad-line n
 ten-line-then n letter ns (l ∷ ls) rest = ten-with-line n (ten-line-numbers letter ns l) (λ zs. rest zs ls)
 
+-- `T` i j coefficient
+abbrev pub ten-term-numbers : Line → TenNumbers
+ten-term-numbers l = ten-line-numbers 84 (unsigned ∷ unsigned ∷ signed ∷ []) l
+
 unfoldable pub ten-terms-from : ℕ → Said → List Line → TenText
 ten-terms-from n w [] = ten-well-formed w
-ten-terms-from n w (l ∷ ls) = ten-with-line n (ten-term-numbers (w .d) (w .terms) l) (λ zs. ten-terms-from (n + 1) (with-terms w (term-of zs ∷ w .terms)) ls)
+ten-terms-from n w (l ∷ ls) = ten-with-line n (ten-term-numbers l) (λ zs.
+    cond (is-admitted (w .d) (w .terms) (term-of zs)) (ten-terms-from (n + 1) (with-terms w (term-of zs ∷ w .terms)) ls) (ten-bad-line n))
 
 unfoldable pub ten-text-of : List Line → TenText
 ten-text-of ls =

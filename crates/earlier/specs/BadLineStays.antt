@@ -5,11 +5,11 @@ use mathlib.Core.List.{List}
 use Prim.Native.Nat.{ℕ, _≤_}
 use lib.Dec.{leb}
 use Rattle.page.specs.SheetLine.{Line, Numbers, faulty, good, line-numbers}
-use Rattle.page.specs.SheetText.{Term, Said, Text, bad-line, well-formed, term-numbers, text-of, Outcome, refused, accepted, outcome}
+use Rattle.page.specs.SheetText.{Term, term-of, Said, Text, bad-line, well-formed, term-numbers, text-of, Outcome, refused, accepted, outcome}
 use Rattle.reading.specs.declared.Reading.{Reading}
 use Rattle.reading.specs.Answers.{reading-of}
 use Rattle.reading.specs.Promises.{ReadPromise}
-use Rattle.earlier.specs.BadLine.{TenNumbers, ten-bad, ten-good, ten-line-numbers, ten-term-numbers, TenText, ten-bad-line, ten-well-formed, ten-text-of, TenOutcome, ten-refused, ten-accepted, ten-outcome}
+use Rattle.earlier.specs.BadLine.{TenNumbers, ten-bad, ten-good, ten-line-numbers, is-admitted, ten-term-numbers, TenText, ten-bad-line, ten-well-formed, ten-text-of, TenOutcome, ten-refused, ten-accepted, ten-outcome}
 
 -- ---- a line that has a fault was bad, and one without was good, with the same numbers; so it is of a term's line
 abbrev pub line-as-ten : Numbers → TenNumbers
@@ -19,8 +19,13 @@ line-as-ten (good zs) = ten-good zs
 abbrev pub SameLine : Type 0
 SameLine = (letter : ℕ) (ns : List Bool) (l : Line) → ten-line-numbers letter ns l ≡ line-as-ten (line-numbers letter ns l)
 
+-- a term's line was bad, too, where its term was not admitted
+abbrev pub when-admitted : ℕ → List Term → TenNumbers → TenNumbers
+when-admitted d ts ten-bad = ten-bad
+when-admitted d ts (ten-good zs) = cond (is-admitted d ts (term-of zs)) (ten-good zs) ten-bad
+
 abbrev pub SameTerm : Type 0
-SameTerm = (d : ℕ) (ts : List Term) (l : Line) → ten-term-numbers d ts l ≡ line-as-ten (term-numbers d ts l)
+SameTerm = (d : ℕ) (ts : List Term) (l : Line) → when-admitted d ts (ten-term-numbers l) ≡ line-as-ten (term-numbers d ts l)
 
 -- ---- a text is bad at the line at which it was bad, and says what it said
 abbrev pub text-as-ten : Text → TenText
@@ -42,9 +47,9 @@ SameOutcome = (text : List ℕ) → ten-outcome text ≡ as-ten (outcome text)
 abbrev pub SheetSame : Type 0
 SheetSame = (text : List ℕ) (r : Reading) (w : Said) → ReadPromise text r → ten-outcome text ≡ ten-accepted w → r ≡ reading-of (accepted w)
 
--- and accepts no other: where it answers no refusal, the text was accepted, with that sheet
+-- and accepts no other: where it answers no refusal, the text was accepted, and its sheet is the answer
 abbrev pub AcceptedBefore : Type 0
-AcceptedBefore = (text : List ℕ) (w : Said) → outcome text ≡ accepted w → ten-outcome text ≡ ten-accepted w
+AcceptedBefore = (text : List ℕ) (r : Reading) → ReadPromise text r → r .refusal ≡ 0 → (w : Said) × (ten-outcome text ≡ ten-accepted w) × (r ≡ reading-of (accepted w))
 
 -- and where it answered a refusal, it answers one with the same line, by the same number or by one of 14 to 20 for 10
 pub record RefusedSame (n line : ℕ) (r : Reading) : Type 0 where

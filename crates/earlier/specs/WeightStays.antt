@@ -44,7 +44,7 @@ NumberStays = (c : Input) → (old-refusal c ≡ 6 → ⊥) → refusal c ≡ ol
 abbrev pub SixWasSix : Type 0
 SixWasSix = (c : Input) → refusal c ≡ 6 → old-refusal c ≡ 6
 
--- ---- so each call that was not refused by 6 answers what it answered, refusals too
+-- ---- so each call that was not refused by 6 answers what it answered, refusals too; of a text that is with the faults of lines as they are told today (#105)
 -- `check` but for weight and spare places: the weight is no larger, and there are no fewer spare places
 abbrev pub Lighter : Checked → Checked → Type 0
 Lighter (Checked.Accepted w n) (Checked.Accepted old-w old-n) = (w ≤ old-w) × (old-n ≤ n)

@@ -2,11 +2,11 @@
 use mathlib.Core.Path.{_≡_, refl, sym, _∙_, ap, ap₂}
 use mathlib.Core.Bool.{Bool, true, false, not, _&&_, cond}
 use mathlib.Core.List.{List, [], _∷_, _++_, map}
-use Prim.Native.Nat.{ℕ, suc, _+_, _≤_, _<_}
+use Prim.Native.Nat.{ℕ, suc, _+_, _≤_, _<_, min}
 use native.Mathlib.Nat as Nat
 use native.Mathlib.Numerals.{add-one}
 use native.Mathlib.Omega.{arith}
-use borrow.Author.Tests.{eq-eqb, ne-eqb}
+use borrow.Author.Tests.{eqb-true, eqb-false, eq-eqb, ne-eqb}
 use lib.Dec.{eqb}
 use lib.IntN.{ℤ, pos}
 use lib.ListN.{length, getD, set, take, drop, length-take, length-set, length-map, List·getD-map, drop-of-length-le}
@@ -14,7 +14,8 @@ use lib.Seq.{drop-cons, take-suc, take-suc-set, take-all}
 use Rattle.page.specs.SheetLine.{fields, is-letter, is-written, is-within, worth, fault, Trial, _at-field_when_, number-faults, Numbers, faulty, good, first-fault, line-numbers}
 use Rattle.lines.specs.declared.Number.{Number}
 use Rattle.lines.specs.declared.Number.the-variants as Number
-use Rattle.lines.specs.Steps.{number-in, line-of, unless-fault, well-before, read-in, LineRead, fault-after}
+use Rattle.lines.specs.declared.Numbers as Read
+use Rattle.lines.specs.Steps.{number-in, line-of, unless-fault, well-before, read-in, LineRead, none-read, opening-by, fault-after}
 use Rattle.lines.proofs.Ending.{numbers-in}
 
 -- ---- what a field holds, as the number of its fault, 0 where it has none
@@ -182,3 +183,27 @@ module _ (line : List ℕ) (letter n : ℕ) (signs : List Bool) where
               → first-fault ((20 at-field 0 when not ended) ∷ []) (map worth (numbers-in line)) ≡ cond ended (good (take n values)) (faulty (fault 20 0))
           closing true e = ap good (sym e)
           closing false e = refl
+
+-- ---- what is wrong before a number is read, or that nothing is
+module _ (line : List ℕ) (letter n : ℕ) (signs : List Bool) {right : Bool} {count : ℕ} (a : right ≡ is-letter letter (getD (fields line) 0 [])) (c : count ≡ min (length (numbers-in line) + 1) 5)
+    (few : n ≤ 3) (three : length signs ≡ 3) where
+  signs-taken : length (take n signs) ≡ n
+  signs-taken = omega (arith, length-take n signs)
+
+  pub opened-faulty : {r : Read.Numbers} → r ≡ opening-by right count (n + 1) → (r .fault ≡ 0 → ⊥) → LineRead line letter n signs r
+  opened-faulty {r} e z = rw e (by right a (eqb count (n + 1)) refl (λ q. z (ap (λ r. r .fault) e ∙ q)))
+    where
+      by : (b : Bool) → b ≡ is-letter letter (getD (fields line) 0 []) → (t : Bool) → eqb count (n + 1) ≡ t
+          → (cond b (cond t (none-read 0 0) (none-read 15 0)) (none-read 14 1) .fault ≡ 0 → ⊥) → LineRead line letter n signs (cond b (cond t (none-read 0 0) (none-read 15 0)) (none-read 14 1))
+      by false p t q z = other-letter line letter n signs (sym p) refl
+      by true p false q z = other-count line letter n signs (sym p) (λ h. eqb-false count (n + 1) q (omega (arith, signs-taken))) refl
+      by true p true q z = absurd (z refl)
+
+  pub opened-right : {r : Read.Numbers} → r ≡ opening-by right count (n + 1) → r .fault ≡ 0 → (is-letter letter (getD (fields line) 0 []) ≡ true) × (length (numbers-in line) ≡ length (take n signs))
+  opened-right {r} e z = by right a (eqb count (n + 1)) refl (sym (ap (λ r. r .fault) e) ∙ z)
+    where
+      by : (b : Bool) → b ≡ is-letter letter (getD (fields line) 0 []) → (t : Bool) → eqb count (n + 1) ≡ t → cond b (cond t (none-read 0 0) (none-read 15 0)) (none-read 14 1) .fault ≡ 0
+          → (is-letter letter (getD (fields line) 0 []) ≡ true) × (length (numbers-in line) ≡ length (take n signs))
+      by false p t q z = absurd (omega arith)
+      by true p false q z = absurd (omega arith)
+      by true p true q z = let h = eqb-true count (n + 1) q in (sym p, omega (arith, signs-taken))

@@ -65,6 +65,13 @@ pub record LineRead (line : List ℕ) (letter n : ℕ) (signs : List Bool) (r : 
   pub values : (ended : Bool) → take (r .read) (r .values) ≡ take (r .read) (worths (line-of line ended))
   pub three : length (r .values) ≡ 3
 
+-- `opening`: by the letter, and then by the count of fields that is found and the one that is asked for
+abbrev pub none-read : ℕ → ℕ → Read.Numbers
+none-read n field = record { fault = n; field = field; read = 0; values = replicate 3 (pos 0) }
+
+abbrev pub opening-by : Bool → ℕ → ℕ → Read.Numbers
+opening-by right count asked = cond right (cond (eqb count asked) (none-read 0 0) (none-read 15 0)) (none-read 14 1)
+
 -- `field_fault`: the fault after so many numbers
 abbrev pub fault-after : ℕ → ℕ → List ℤ → Read.Numbers
 fault-after n read values = record { fault = n; field = read + 2; read = read; values = values }

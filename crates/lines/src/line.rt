@@ -8,7 +8,7 @@ use crate::fields::part;
 ghost use mathlib.Core.Path.{_≡_};
 ghost use Prim.Native.Nat.{_≤_};
 ghost use lib.ListN.{length};
-ghost use Rattle.lines.specs.Steps.{fault-after, LineRead, none-at, closed-at, LineTaken};
+ghost use Rattle.lines.specs.Steps.{fault-after, opening-by, LineRead, none-at, closed-at, LineTaken};
 
 const LF: u8 = 10;
 
@@ -25,6 +25,34 @@ fn field_fault(fault: u32, read: usize, values: [i32; 3]) -> Numbers
     }
 }
 
+// What is wrong before a number is read: the letter is tried, and after it the count of fields.
+fn opening(right: bool, count: usize, asked: usize) -> Numbers
+    ensures { λ r. ⌜ r ≡ opening-by right count asked ⌝ }
+{
+    if !right {
+        return Numbers {
+            fault: 14,
+            field: 1,
+            read: 0,
+            values: [0; 3],
+        };
+    }
+    if count != asked {
+        return Numbers {
+            fault: 15,
+            field: 0,
+            read: 0,
+            values: [0; 3],
+        };
+    }
+    Numbers {
+        fault: 0,
+        field: 0,
+        read: 0,
+        values: [0; 3],
+    }
+}
+
 // What a line comes to that has to begin with the letter and to hold `count` numbers, each negative only where `signs` says so.
 fn numbers_of(line: &[u8], letter: u8, count: usize, signs: [bool; 3]) -> Numbers
     requires { ⌜ (count ≤ 3) × (length signs ≡ 3) ⌝ }
@@ -32,23 +60,12 @@ fn numbers_of(line: &[u8], letter: u8, count: usize, signs: [bool; 3]) -> Number
 {
     let parted = part(line);
     let ends = parted.ends;
+    let right = letter_alone(&line[..ends[0]], letter);
+    let opened = opening(right, parted.count, count + 1);
+    if opened.fault != 0 {
+        return opened;
+    }
     let mut values = [0i32; 3];
-    if !letter_alone(&line[..ends[0]], letter) {
-        return Numbers {
-            fault: 14,
-            field: 1,
-            read: 0,
-            values,
-        };
-    }
-    if parted.count != count + 1 {
-        return Numbers {
-            fault: 15,
-            field: 0,
-            read: 0,
-            values,
-        };
-    }
     let mut i = 0;
     while i < count {
         match number(&line[ends[i] + 1..ends[i + 1]], signs[i]) {

@@ -10,7 +10,7 @@ use lib.ListN.{length}
 use Rattle.page.specs.Refusals.{refusal}
 use Rattle.page.specs.SheetLine.{Line, ended-line, before-line, lines, fault}
 use Rattle.page.specs.SheetText.{Text, bad-line, well-formed, text-of, to-read, refused, outcome-of, outcome}
-use Rattle.page.specs.FaultFacts.{FaultPlaced, UnendedLast, FaultStays}
+use Rattle.page.specs.FaultFacts.{FaultPlaced, UnendedLast, FaultFound, FirstBad, FaultStays}
 use Rattle.page.proofs.TextWalk.{Ended, bad-at}
 use Rattle.page.proofs.ReadFacts.{bad-stays, by-rows, read-never, lines-join}
 
@@ -28,6 +28,13 @@ lines-ended (b ∷ bs) = by (eqb b 10) (lines bs) (lines-ended bs)
 -- ---- which field goes with which number
 pub fault-placed : FaultPlaced
 fault-placed ls n f e = bad-at ls [] n f e .0 .placed
+
+-- ---- the fault of the text is that of the bad line, and that line is the first bad one
+pub fault-found : FaultFound
+fault-found ls n f e h = bad-at ls [] n f e .0 .found h .comes
+
+pub first-bad : FirstBad
+first-bad ls n f e h = let found = bad-at ls [] n f e .0 .found h in (found .before, found .alone)
 
 -- ---- a refusal that has a line is that of a bad line
 bad-of : (long : Bool) (t : Text) (n line field : ℕ) → cond long (refused 11 0 0) (outcome-of t) ≡ refused n line field → 1 ≤ line → t ≡ bad-line line (fault n field)

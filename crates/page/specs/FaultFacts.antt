@@ -2,11 +2,11 @@
 use mathlib.Core.Path.{_≡_}
 use mathlib.Core.Bool.{Bool, true, false, _||_, cond}
 use mathlib.Core.List.{List, [], _∷_, _++_}
-use Prim.Native.Nat.{ℕ, _+_, _≤_, _<_}
+use Prim.Native.Nat.{ℕ, _+_, _-_, _≤_, _<_}
 use lib.Dec.{eqb}
-use lib.ListN.{length, getD}
-use Rattle.page.specs.SheetLine.{Line, lines, is-written, is-within, worth, unsigned, signed, letter-field, number-fields, is-letter, reads-well, Fault, fault, missing, Numbers, faulty, good, worths, line-numbers}
-use Rattle.page.specs.SheetText.{Term, term-of, is-named, is-beyond, bad-line, text-of, term-numbers, refused, outcome}
+use lib.ListN.{length, getD, take}
+use Rattle.page.specs.SheetLine.{Line, ended-line, lines, is-written, is-within, worth, unsigned, signed, letter-field, number-fields, is-letter, reads-well, Fault, fault, missing, Numbers, faulty, good, worths, line-numbers}
+use Rattle.page.specs.SheetText.{Term, term-of, is-named, is-beyond, Said, bad-line, well-formed, text-of, term-numbers, refused, outcome}
 
 -- ---- what each number says of a line: its own condition holds, and nothing tried before it does
 -- the field of a line's n-th number, from 0, and whether that number may be negative
@@ -85,7 +85,32 @@ FaultPlaced = (ls : List Line) (n : ℕ) (f : Fault) → text-of ls ≡ bad-line
 abbrev pub UnendedLast : Type 0
 UnendedLast = (text : List ℕ) (line field : ℕ) → outcome text ≡ refused 20 line field → line ≡ length (lines text)
 
--- ---- the fault is found in the first bad line, whatever bytes come after that line's LF
+-- ---- the fault is found in the first bad line
+-- the n-th line, from 1; its letter, and the signs of its numbers
+abbrev pub line-at : List Line → ℕ → Line
+line-at ls n = getD ls (n - 1) (ended-line [])
+
+abbrev pub letter-on : ℕ → ℕ
+letter-on n = cond (eqb n 1) 68 (cond (eqb n 2) 66 (cond (eqb n 3) 75 (cond (eqb n 4) 77 84)))
+
+abbrev pub signs-on : ℕ → List Bool
+signs-on n = cond (eqb n 1 || eqb n 3 || eqb n 4) (unsigned ∷ []) (cond (eqb n 2) (signed ∷ signed ∷ unsigned ∷ []) (unsigned ∷ unsigned ∷ signed ∷ []))
+
+-- what the n-th line comes to: one of the first four by itself, a term's line with what the lines before it say
+pub data ComesTo (ls : List Line) (n : ℕ) (f : Fault) : Type 0 where
+  as-head : n ≤ 4 → line-numbers (letter-on n) (signs-on n) (line-at ls n) ≡ faulty f → ComesTo ls n f
+  as-term : (w : Said) → 5 ≤ n → text-of (take (n - 1) ls) ≡ well-formed w → term-numbers (w .d) (w .terms) (line-at ls n) ≡ faulty f → ComesTo ls n f
+
+-- the fault of the text is that of the bad line
+abbrev pub FaultFound : Type 0
+FaultFound = (ls : List Line) (n : ℕ) (f : Fault) → text-of ls ≡ bad-line n f → n ≤ length ls → ComesTo ls n f
+
+-- which is the first: the lines before it have no fault, though one of the first four may be missing yet; and with it alone after them the text is bad there, by the same fault
+abbrev pub FirstBad : Type 0
+FirstBad = (ls : List Line) (n : ℕ) (f : Fault) → text-of ls ≡ bad-line n f → n ≤ length ls →
+    ((m : ℕ) (g : Fault) → text-of (take (n - 1) ls) ≡ bad-line m g → (m ≡ n) × (g ≡ missing)) × (text-of (take n ls) ≡ bad-line n f)
+
+-- whatever bytes come after that line's LF
 abbrev pub FaultStays : Type 0
 FaultStays = (text more : List ℕ) (n line field : ℕ) → outcome (text ++ (10 ∷ [])) ≡ refused n line field → 1 ≤ line → line ≤ length (lines (text ++ (10 ∷ []))) →
     length (text ++ (10 ∷ more)) ≤ 8_192 → outcome (text ++ (10 ∷ more)) ≡ refused n line field

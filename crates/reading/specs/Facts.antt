@@ -26,7 +26,7 @@ ReadingZeros = (text : List ℕ) (r : Reading) → ReadPromise text r → (r .re
 abbrev pub ReadingLine : Type 0
 ReadingLine = (text : List ℕ) (r : Reading) → ReadPromise text r → (14 ≤ r .refusal → 1 ≤ r .line) × (r .refusal ≤ 11 → (r .line ≡ 0) × (r .field ≡ 0)) × (r .refusal ≡ 10 → ⊥)
 
--- the number, the line and the field go together: the answer is the fault of that line
+-- the number, the line and the field go together as the request has them: which of them that is, FaultFound of page/specs/FaultFacts says
 abbrev pub ReadingField : Type 0
 ReadingField = (text : List ℕ) (r : Reading) → ReadPromise text r → 14 ≤ r .refusal → FaultAt (length (lines text)) (r .line) (fault (r .refusal) (r .field))
 

@@ -26,7 +26,7 @@ struct Fault {
     pub field: u32,
 }
 
-// What is wrong with a term's line: the number of the fault and its field; or zeros, and where the next line begins.
+// What is wrong with a term's line: the number of the fault and its field; or zeros, and where the next line begins, which says nothing beside a fault.
 struct Entered {
     pub number: u32,
     pub field: u32,
