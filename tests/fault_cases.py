@@ -3,13 +3,17 @@
 For each kind of line every set of one, two or three faults that can stand together is put into a good line, a few times, with other fields and bytes
 each time; before it stand good lines, after it any. A fault is told by a name. What decides follows from the names alone, by a rule of its own: the
 faults of each line stand here in a row, and the first of them that was put in decides. A field can be badly written and have a number besides that is
-outside 32 bits, negative or an exponent beyond, in the eyes of one who reads it loosely: these are faults at once, too.
+outside 32 bits, negative or an exponent beyond, in the eyes of one who reads it loosely: these are faults at once, too. So are an exponent that is
+negative or outside 32 bits and a term fault, in the eyes of one who loses its sign, or all bits but 32: -2 or 2^32 + 2 where a term with 2 was named.
+
+What was put into a line is not taken from its maker's word: tests/fault_rules.py looks at the lines, by a rule of its own.
 """
 import collections
 import itertools
 import random
 
-from case_sheets import LEAST31, MOST31
+from case_sheets import MOST31
+from fault_rules import faults_seen
 from second_text import written
 from text_cases import NEGATIVE, NOT_WRITTEN, OTHER_LETTERS, Case, all_cases, row, small, text_of
 
@@ -24,6 +28,8 @@ TERM = {"the sum beyond": (18, 2), "i above 8": (18, 2), "j above 8": (18, 2), "
 OUTSIDE = (2 ** 31, 2 ** 31 + 1, 2 ** 32 - 1, 2 ** 32, 2 ** 32 + 1, 2 ** 32 + 9, 2 ** 63, 2 ** 64, 2 ** 64 + 1, 10 ** 10 - 1, 10 ** 10, 2 ** 128)
 ABOVE = (9, 9, 9, 10, 16, 17, 255, 256, 257, 65_536, MOST31 - 8, MOST31)
 BELOW = tuple(map(int, NEGATIVE))
+# what a number loses of which 32 bits are kept
+LOST = (2 ** 32, 2 ** 32, 2 ** 33, 2 ** 63, 2 ** 64)
 # a number badly written, so that one who reads it loosely finds it still
 LOOSELY = [lambda sign, digits: sign + b"0" + digits, lambda sign, digits: sign + b"000" + digits, lambda sign, digits: b"+" + sign + digits,
            *(lambda sign, digits, more=more: sign + digits + more for more in (b" ", b"x", b"\r", b"-", b".0", b"\x00", b"\xb2")),
@@ -56,22 +62,13 @@ def decides(letter, names):
     return next(answer for name, answer in FAULTS[letter].items() if name in names)
 
 
-def strange(names, field):
-    """Whether a field has a number that is no exponent, however it is written."""
-    return not names.isdisjoint((f"{field} outside", f"{field} negative"))
-
-
 def together(letter, names):
     """Whether faults can stand together in a line with a letter: the field that is left out is the last one."""
     if {"a field less", "a field more"} <= names:
         return False
     if "a field less" in names and any(name.startswith(str(COUNTS[letter] + 1)) for name in names):
         return False
-    if "i above 8" in names and strange(names, 2) or "j above 8" in names and strange(names, 3):
-        return False
-    if "the sum beyond" in names and strange(names, 2) and strange(names, 3):
-        return False
-    return "twice" not in names or len(names & {*TERM}) == 1 and not strange(names, 2) and not strange(names, 3)
+    return "twice" not in names or len(names & {*TERM}) == 1
 
 
 def sets_of(letter, size):
@@ -91,6 +88,19 @@ def number_with(rng, names, letter, field, good):
     return rng.choice(BELOW) if f"{field} negative" in names else good
 
 
+def disguised(rng, names, field, e):
+    """A number by the faults of a field, which one takes for an exponent who loses its sign, all bits but 32, or both."""
+    outside, negative = f"{field} outside" in names, f"{field} negative" in names
+    if outside:
+        return rng.choice((e, -e)) - rng.choice(LOST) if negative else rng.choice((e, e, -e)) + rng.choice(LOST)
+    return -e if negative else e
+
+
+def signable(names, pair):
+    """Whether exponents can be negative where they are to be: -0 is badly written, and no negative number."""
+    return all(e or f"{field} negative" not in names or f"{field} outside" in names for field, e in enumerate(pair, 2))
+
+
 def field_with(rng, names, field, number):
     """The bytes of a field. What is badly written has a number that can be guessed, or has none."""
     plain = b"%d" % number
@@ -102,20 +112,27 @@ def field_with(rng, names, field, number):
 
 
 def exponents_with(rng, names, d, named):
-    """The exponents of a term by their faults, and a declared degree with which just these hold, where d is enough for the terms named before.
+    """The exponents of a term by its term faults, and a declared degree with which just these hold, where d is enough for the terms named before.
 
-    An exponent outside 32 bits does not count for the sum. Where the pair that was picked would not do another is picked.
+    Where the pair that was picked would not do another is picked.
     """
     while True:
+        i, j = rng.choice(named) if "twice" in names else (rng.choice(ABOVE) if f"{name} above 8" in names else rng.randint(0, 8) for name in "ij")
+        total = i + j
+        if not signable(names, (i, j)):
+            continue
         if "twice" in names:
-            return *rng.choice(named), d
-        good = (rng.choice(ABOVE) if f"{name} above 8" in names else rng.randint(0, 8) for name in "ij")
-        i, j = (number_with(rng, names, b"T", field, number) for field, number in enumerate(good, 2))
-        total = sum(e for e in (i, j) if LEAST31 <= e <= MOST31)
+            return i, j, d
         if "the sum beyond" in names and total > d:
             return i, j, rng.choice((d, rng.randint(d, min(total - 1, MOST31)), min(total - 1, MOST31)))
         if "the sum beyond" not in names and total <= MOST31 and (i, j) not in named:
             return i, j, rng.choice((max(d, total), max(d, total), min(max(d, total) + 1, MOST31)))
+
+
+def exponent_with(rng, names, field, e, free):
+    """The number of an exponent's field: one that can be taken for the exponent, but where it is free and no term fault hangs on it."""
+    hangs = names & {"twice", "the sum beyond", "%s above 8" % "ij"[field - 2]}
+    return number_with(rng, names, b"T", field, e) if free and not hangs else disguised(rng, names, field, e)
 
 
 def line_with(rng, names, letter, numbers):
@@ -138,11 +155,16 @@ def head_with(rng, rows, at, names):
     return rows[:at], line_with(rng, names, letter, [number_with(rng, names, letter, field, int(good)) for field, good in enumerate(numbers, 2)])
 
 
+def named_in(rows):
+    return [(int(i), int(j)) for _, i, j, _ in rows[4:]]
+
+
 def term_with(rng, rows, at, names):
     """A term with faults, and the lines before it."""
-    named = [(int(i), int(j)) for _, i, j, _ in rows[4:at]]
-    i, j, d = exponents_with(rng, names, int(rows[0][1]), named)
-    numbers = i, j, number_with(rng, names, b"T", 4, rng.choice((0, 1, -7)))
+    i, j, d = exponents_with(rng, names, int(rows[0][1]), named_in(rows[:at]))
+    free = rng.random() < 0.4
+    numbers = [exponent_with(rng, names, field, e, free) for field, e in ((2, i), (3, j))]
+    numbers.append(number_with(rng, names, b"T", 4, rng.choice((0, 1, -7))))
     return [row("D", d), *rows[1:at]], line_with(rng, names, b"T", numbers)
 
 
@@ -160,6 +182,8 @@ def with_faults(rng, letter, names):
     """A text whose first bad line has such faults."""
     rows, names = small(rng), {*names}
     at = LETTERS.index(letter) if letter != b"T" else rng.randint(5 if "twice" in names else 4, len(rows))
+    if "twice" in names and not any(signable(names, pair) for pair in named_in(rows[:at])):
+        return with_faults(rng, letter, names)  # no term before the line can be given twice in such a way
     before, line = (term_with if letter == b"T" else head_with)(rng, rows, at, names)
     text = text_of([*before, line])
     text = text[:-1] if "unended" in names else text + after(rng, rows[at + 1:])
@@ -231,8 +255,29 @@ def show_pairs(pairs):
     shown("two faults put into one line, by number and field", map(NAMES.get, heads), rows)
 
 
+def seen_in(text, answer):
+    """The letter of the bad line of a text and all faults seen in it, by the answer: a number, a line, a field; nothing where the line is missing."""
+    number, line, field = answer
+    return (LETTERS[min(line, 5) - 1], frozenset(faults_seen(text, line))) if number >= 14 and (number, field) != (14, 0) else None
+
+
+def misput(cases, answers):
+    """The texts in which not all faults are seen that were put in; and what is seen in one line, of any text, and is said not to stand together."""
+    seen = [seen_in(case.text, answer) for case, answer in zip(cases, answers)]
+    for case, found in zip(cases, seen):
+        if case.faults and not (found and found[0] == case.faults[0] and case.faults[1] <= found[1]):
+            yield f"{', '.join(sorted(case.faults[1]))} were put into a line, and {found} is seen in {case.text!r}"
+    twos = {(letter, two) for letter, names in {*seen} - {None} for two in itertools.combinations(sorted(names), 2)}
+    yield from (f"{' and '.join(two)} are seen in one line of {letter.decode()}, and are said not to stand together" for letter, two in sorted(twos)
+                if not together(letter, {*two}))
+
+
 def tally(cases, answers):
-    """Prints how often each fault decided and how often two stood in one line, and tells what never came up. An answer: a number, a line, a field."""
+    """Prints how often each fault decided and how often two stood in one line, and tells what never came up. An answer: a number, a line, a field.
+
+    A set of faults came up where a line was seen that has just these, whatever was put into it.
+    """
+    seen = {seen_in(case.text, answer) for case, answer in zip(cases, answers)}
     decided = collections.Counter(cell_of(*answer) for answer in answers if answer[0] >= 14)
     sets = collections.Counter(case.faults for case in cases if case.faults)
     show_cells(decided)
@@ -240,4 +285,4 @@ def tally(cases, answers):
     counts = collections.Counter(len(names) for _, names in sets)
     print("put into one line: " + ", ".join(f"{counts[size]} sets of {size}" for size in TIMES) + f" faults, in {sum(sets.values())} texts")
     yield from ("%d at field %d in a line of %s" % cell for cell in every_cell() if not decided[cell])
-    yield from (f"in one line of {letter.decode()}: {', '.join(names)}" for letter, names in SETS if not sets[letter, frozenset(names)])
+    yield from (f"in one line of {letter.decode()} just: {', '.join(names)}" for letter, names in SETS if (letter, frozenset(names)) not in seen)

@@ -6,6 +6,8 @@ wrong in one of these ways, then no text would tell that rule from it, and the r
 
 A wrong rule is told by a text to which it gives another answer. Each says in which ways it errs: pairs of a number with its field, the right ones and
 its own, (0, 0) where there is no fault; each way must come up. That 19 is tried after 18 no text can tell: a term beyond was never given before.
+
+By the same pieces stands here what can be seen in a line, whatever decides: the faults that tests/fault_cases.py says it put there are looked for.
 """
 import collections
 import functools
@@ -41,6 +43,11 @@ def outside(field):
     return not LEAST31 <= worth(field) <= MOST31
 
 
+def wrapped(number):
+    """What is left of a number in 32 bits with a sign."""
+    return (number - LEAST31) % 2 ** 32 + LEAST31
+
+
 def below(line, at):
     """Whether a field is negative where it may not be."""
     return (line.letter, at) not in SIGNED and worth(line.fields[at - 1]) < 0
@@ -70,6 +77,12 @@ def field(at, fault=fault_of_number):
 def loosely(line):
     """i and j where the line is to be a term's, whether they read well or not."""
     return (worth(line.fields[1]), worth(line.fields[2])) if line.letter == b"T" and len(line.fields) > 2 else None
+
+
+def guessed(line, lost=lambda e: abs(wrapped(e))):
+    """The same, as one takes them who loses something of them: their signs, and all bits but 32."""
+    pair = loosely(line)
+    return pair and (lost(pair[0]), lost(pair[1]))
 
 
 def exponents(line):
@@ -127,6 +140,29 @@ def answer_by(rule, text):
     return rule.told(*rule.missing(len(lines) + 1)) if len(lines) < 4 else (0, 0, 0)
 
 
+# ---- what can be seen in a line
+
+def names_of(line):
+    """All faults of a line by the names of tests/fault_cases.py: the exponents are guessed."""
+    fields, wanted = line.fields, FIELDS[line.letter]
+    yield "letter", letter(line)
+    yield "a field less", len(fields) < wanted
+    yield "a field more", len(fields) > wanted
+    for at, here in enumerate(fields[1:wanted], 2):
+        yield from ((f"{at} badly written", badly(here)), (f"{at} outside", outside(here)), (f"{at} negative", below(line, at)))
+    if guessed(line):
+        i, j = guessed(line)
+        yield from (("the sum beyond", i + j > line.d), ("i above 8", i > 8), ("j above 8", j > 8), ("twice", (i, j) in line.named))
+    yield "unended", end(line)
+
+
+def faults_seen(text, at):
+    """The faults that are seen in a line of a text, counted from 1, all lines before it being good."""
+    (*before, fields), ended = [line.split(b"\t") for line, _ in split(text)[:at]], split(text)[at - 1][1]
+    named = [(worth(i), worth(j)) for _, i, j, _ in before[4:]]
+    return {name for name, holds in names_of(Line(LETTERS[min(at, 5) - 1], fields, ended, worth(before[0][1]) if before else 0, named)) if holds}
+
+
 # ---- wrong rules
 
 def tried(*trials):
@@ -157,6 +193,15 @@ def terms_by(**other):
     return tried(*FRONT, *EXPONENTS, term(**other), COEFFICIENT, end)
 
 
+def exponents_by(lost):
+    """Exponents of which something is lost before it is asked whether they are good."""
+    def fault(line, at):
+        good = line.letter == b"T" and not badly(line.fields[at - 1]) and 0 <= lost(worth(line.fields[at - 1])) <= MOST31
+        return None if good else fault_of_number(line, at)
+    read = field(2, fault), field(3, fault)
+    return tried(*FRONT, *read, term(of=lambda line: None if any(trial(line) for trial in read) else guessed(line, lost)), COEFFICIENT, end)
+
+
 def letter_by(trial):
     return tried(trial, count, *EXPONENTS, TERM, COEFFICIENT, end)
 
@@ -185,7 +230,10 @@ BADLY, ASTRAY, TERMS = [(16, 2), (16, 3), (16, 4)], [(17, 2), (17, 3), (17, 4)],
 NUMBERS = BADLY + ASTRAY
 CELLS = [(14, 0), (14, 1), (15, 0), *NUMBERS, *TERMS, (20, 0)]
 SAME_LINE = [(14, 1), (15, 0), *NUMBERS, *TERMS]
+IN_EXPONENTS = [(16, 2), (16, 3), (17, 2), (17, 3)]
 NONE = (0, 0)
+# what becomes of an exponent that is let through
+TAKEN = [((17, at), other) for at in (2, 3) for other in (*TERMS, (16, 4), (17, 4), (20, 0), NONE)] + to((16, 3), (17, 2))
 # by its name a wrong rule, and the ways in which it errs
 RULES = {
     # the order of a line's faults
@@ -196,8 +244,10 @@ RULES = {
     "an unended line before the count": (tried(letter, end, *RIGHT.trials[1:]), to((20, 0), *SAME_LINE[1:])),
     "an unended line before the numbers": (tried(*FRONT, end, *RIGHT.trials[2:]), to((20, 0), *NUMBERS, *TERMS)),
     "an unended line before the coefficient": (tried(*FRONT, *EXPONENTS, TERM, end, COEFFICIENT), to((20, 0), (16, 4), (17, 4))),
-    "a term fault before i and j read well": (tried(*FRONT, term(of=loosely), *RIGHT.trials[2:]),
-                                              to((18, 2), (16, 2), (16, 3), (17, 2), (17, 3)) + to((19, 2), (16, 2), (16, 3))),
+    "a term fault before i and j read well": (tried(*FRONT, term(of=guessed), *RIGHT.trials[2:]),
+                                              to((18, 2), *IN_EXPONENTS) + to((19, 2), *IN_EXPONENTS)),
+    "a term fault before i and j read well, nothing of them lost": (tried(*FRONT, term(of=loosely), *RIGHT.trials[2:]),
+                                                                    to((18, 2), *IN_EXPONENTS) + to((19, 2), (16, 2), (16, 3))),
     "i tried before j is read": (tried(*FRONT, field(2), early_exponent, *RIGHT.trials[3:]), to((18, 2), (16, 3), (17, 3))),
     "a term fault before the count": (tried(letter, TERM, *RIGHT.trials[1:]), to((18, 2), (15, 0)) + to((19, 2), (15, 0))),
     "a term fault after the coefficient's": (tried(*FRONT, *EXPONENTS, COEFFICIENT, TERM, end), to((16, 4), *TERMS) + to((17, 4), *TERMS)),
@@ -219,6 +269,9 @@ RULES = {
     "a plus let through": (let_through(lambda here: re.fullmatch(rb"\+[0-9]", here)), to(NONE, *BADLY)),
     "-0 let through": (let_through(lambda here: here == b"-0"), to(NONE, *BADLY)),
     "32 bits without a sign let through": (let_through(lambda here: not badly(here) and MOST31 < worth(here) < 2 ** 32), to(NONE, *ASTRAY)),
+    "the sign of an exponent lost": (exponents_by(abs), TAKEN + to((17, 3), (17, 2))),
+    "an exponent wrapped to 32 bits": (exponents_by(wrapped), TAKEN + to((17, 3), (17, 2))),
+    "an exponent wrapped to 32 bits, and its sign lost": (exponents_by(lambda e: abs(wrapped(e))), TAKEN),
     # terms
     "18 for a term twice": (terms_by(twice=(18, 2)), to((18, 2), (19, 2))),
     "19 for a term beyond": (terms_by(beyond=lambda i, j: (19, 2)), to((19, 2), (18, 2))),

@@ -6,44 +6,16 @@ which may hold any bytes. Where they do not belong together there are no words b
 import re
 
 import number_words
-from line_forms import HIGHEST, LEAST, LETTERS, MOST, TERMS, belongs, number_at, quoted, right, signs_of, word_of
+from line_forms import (FORMS, HIGHEST, LEAST, LETTERS, MOST, TERMS, WELL, belongs, exponents, number_at, numbers_in, quoted, right, signs_of,
+                        word_of)
+from slip_words import put_right
 
 ORDER = "The order is D, B, K, M, and then a T for each term."
 MEND = "leave the term out, or mend its i or j."
+EMPTY = "A sheet has no empty lines, not even at its end: take it out."
 # Greek and Russian letters that look like these
 ALIKE = str.maketrans("\u0392\u039a\u039c\u03a4\u0412\u041a\u041c\u0422", "BKMTBKMT")
 COMMENTS = (b"#", b"%", b"!", b"//", b"/*", b"--")
-# what may stand where tabs belong: the bytes, what is exchanged for a tab, the words and the command
-PARTED = (
-    (b" ", rb"[ \t]+", "Blanks", r"tr -s ' ' '\t'"),
-    (b"\xc2\xa0", rb"\xc2\xa0", "No-break blanks", r"sed 's/\xc2\xa0/\t/g'"),
-    (b"<tab>", rb"<tab>", "The five signs <tab>", r"sed 's/<tab>/\t/g'"),
-    (rb"\t", rb"\\t", r"The two signs \t", r"sed 's/\\t/\t/g'"),
-    (b",", rb",", "Commas", r"tr ',' '\t'"),
-    (b";", rb";", "Semicolons", r"tr ';' '\t'"),
-)
-
-
-def mended_by(slips):
-    """The words for slips, and the commands that mend them, as one."""
-    if not slips:
-        return []
-    words, (first, *more) = zip(*slips)
-    return [" ".join(words), f"This mends it: {' | '.join([f'{first} < old.sheet', *more])} > new.sheet"]
-
-
-def carriages(place):
-    """Carriage returns before a line end, or in place of every one, as a slip; or none."""
-    if place.ended and place.line.endswith(b"\r"):
-        return [(r"The \r is a carriage return, which Windows sets before a line end.", r"tr -d '\r'")]
-    if b"\r" in place.line and b"\n" not in place.text:
-        return [(r"The \r is a carriage return, which ends no line here.", r"tr '\r' '\n'")]
-    return []
-
-
-def exchanged(words, command):
-    """Something else in place of tabs, as a slip."""
-    return f"{words} stand where tabs belong.", command
 
 
 # ---- 14
@@ -77,35 +49,20 @@ def wrong_letter(place, letter):
     return ["A sheet has no comments: take the line out."] if letter.startswith(COMMENTS) else [belongs(place)]
 
 
-def letter_alone(place):
-    """The letter of field 1 without what stands beside it; and that, as slips."""
-    letter, slips = place.field, []
-    if letter.startswith(b"\xef\xbb\xbf"):
-        slips, letter = [("An editor set three bytes before the text.", "tail -c +4")], letter[3:]
-    if b"\r" in letter:
-        slips, letter = slips + carriages(place), letter.rstrip(b"\r")
-    if not letter or letter.startswith(b" "):
-        slips = [*slips, (f"A {'blank' if letter else 'tab'} stands before the letter.", r"sed 's/^[ \t]*//'")]
-        letter = letter.lstrip(b" ") or place.line.strip(b" \t").split(b"\t")[0]
-    for sign, found, words, command in PARTED:
-        first = re.sub(found, b"\t", letter).split(b"\t")[0]
-        if sign in letter and first.upper() in LETTERS:
-            slips, letter = [*slips, exchanged(words, command)], first
-    return letter, slips
-
-
 def letter_words(place):
     """What is said of field 1."""
-    if place.text.startswith((b"\xff\xfe", b"\xfe\xff")):
-        return mended_by([("The text is saved as UTF-16, and is no plain text.", "iconv -f UTF-16 -t UTF-8")])
     if not place.line.strip(b" \t\r"):
-        return ["A sheet has no empty lines, not even at its end: take it out."]
-    alone, slips = letter_alone(place)
-    said = mended_by(slips)
+        return [EMPTY]
+    line, said, is_good = put_right(place)
+    alone = line.split(b"\t")[0]
+    if is_good:
+        return said
+    if not line.strip(b" \t\r"):
+        return [*said, EMPTY if place.ended else belongs(place)]
     if alone[:1].upper() in LETTERS and re.match(rb"[-+]?[0-9]", alone[1:]):
         said.append(f"A tab belongs after the letter: {alone[:1].upper().decode()}<tab>{''.join(signs_of(alone[1:20]))}")
-        alone = alone[:1]
-    return said + wrong_letter(place, alone)
+        return said + wrong_letter(place, alone[:1])
+    return said + (wrong_letter(place, alone) or count_words(place, line))
 
 
 def letter(place):
@@ -119,19 +76,13 @@ def letter(place):
 
 # ---- 15
 
-def count_slip(place):
-    """What makes the count of fields right, as a slip: that of the ends of lines or of tabs; or none."""
-    def is_mended(line):
-        return len(line.split(b"\t")) == len(place.form.numbers) + 1
-
-    if b"\n" not in place.text and carriages(place):
-        return carriages(place)
-    for sign, found, words, command in PARTED:
-        if sign in place.line and is_mended(re.sub(found, b"\t", place.line)):
-            return [exchanged(words, command)]
-    if is_mended(place.line.rstrip(b"\t")):
-        return [("Nothing follows the tabs at its end.", r"sed 's/\t*$//'")]
-    return [("Two tabs stand where one belongs.", r"tr -s '\t'")] if is_mended(re.sub(rb"\t+", b"\t", place.line)) else []
+def count_words(place, line):
+    """What is said of a line that has another count of fields."""
+    following = FORMS[min(place.at, TERMS - 1)].letter  # of the line after it
+    if any(re.fullmatch(rf"(?:{WELL.pattern})?{following}", word_of(field)) for field in line.split(b"\t")[1:]):
+        return [f"A line end belongs before {following}."]
+    is_unsure = b"," in line and line.count(b"\t") < len(place.form.numbers)
+    return ["A comma parts no fields: where it stands for a tab, set a tab."] * is_unsure + [belongs(place)]
 
 
 def count(place):
@@ -139,8 +90,8 @@ def count(place):
     if place.line is None or met == needed:
         return None
     said = f" has {met:,} field{'s' if met > 1 else ''}, and a{'n' if letter == 'M' else ''} {letter} line has {needed}"
-    joined = [f"A line end belongs before {field[-1:].decode()}." for field in place.fields[1:] if field[-1:] in LETTERS]
-    return said, mended_by(count_slip(place)) or joined[:1] or [belongs(place)]
+    line, hints, is_good = put_right(place)
+    return said, hints if is_good else hints + count_words(place, line)
 
 
 # ---- 16 and 17
@@ -150,10 +101,13 @@ def writing(place):
     if number is None:
         return None
     said = ": nothing stands where a number belongs" if not place.field else f": {quoted(place.field)} is not written as a number"
-    field, slips = place.field, carriages(place) if place.field.endswith(b"\r") else []
-    if slips:
-        field = field[:-1]
-    return said, mended_by(slips) + ([] if number_words.WELL.fullmatch(word_of(field)) else number_words.hints(field, number))
+    if b"\r" not in place.field:
+        return said, number_words.hints(place.field, number)
+    line, hints, is_good = put_right(place)
+    fields = line.split(b"\t")
+    rest = fields[place.number - 1] if len(fields) == len(place.fields) else place.field
+    is_well = is_good or WELL.fullmatch(word_of(rest))
+    return said, hints if is_well else hints + number_words.hints(rest, number)
 
 
 def size(place):
@@ -165,18 +119,6 @@ def size(place):
 
 
 # ---- 18 and 19
-
-def numbers_in(line):
-    """The numbers after a line's letter, None for those that are badly written or very large."""
-    words = [word_of(field) for field in line.split(b"\t")[1:]]
-    return [int(word) if number_words.WELL.fullmatch(word) and len(word) <= 11 else None for word in words]
-
-
-def exponents(line):
-    """i and j of a line, or None."""
-    both = numbers_in(line)[:2]
-    return both if len(both) == 2 and None not in both else None
-
 
 def is_term(place):
     return place.number == 2 and place.at >= TERMS and place.line is not None and exponents(place.line) is not None

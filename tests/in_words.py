@@ -6,7 +6,7 @@ Nothing is decided here: the program has given its number, and the line and the 
 import re
 
 from fault_words import FAULTS
-from line_forms import field_words, fitting, place_of, signs_of
+from line_forms import field_words, fitting, is_pair, place_of, signs_of
 from too_heavy import hints_for
 
 REASONS = {
@@ -24,10 +24,11 @@ HEAVY, UNENDED = 6, 20
 
 
 def marked_at(place, number):
-    """The first byte that is marked and the one after the last: those of the field; or none, at the end of an unended line; or nothing."""
+    """The first byte that is marked and the one after the last: those of the field, or of i and j; or none, at the end of an unended line; or
+    nothing."""
     if place.field is not None:
         start = sum(len(field) + 1 for field in place.fields[:place.number - 1])
-        return start, start + len(place.field)
+        return start, start + len(b"\t".join(place.fields[1:3]) if is_pair(place, number) else place.field)
     return (len(place.line), len(place.line)) if number == UNENDED and place.line else None
 
 
@@ -50,7 +51,7 @@ def bad_line(number, text, at, field):
     meaning, words_at = FAULTS[number]
     place = place_of(text, at, field)
     said, hints = words_at(place) or (f": {meaning}", [])
-    return [f"line {at}{field_words(place)}{said}", *line_shown(place, number), *hints[:MOST]]
+    return [f"line {at}{field_words(place, number)}{said}", *line_shown(place, number), *hints[:MOST]]
 
 
 def refusal(text, answer):

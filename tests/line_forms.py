@@ -1,7 +1,9 @@
-"""The lines that a sheet text is made of, places in a text, and bytes written out: for tests/fault_words.py and tests/in_words.py."""
+"""The lines that a sheet text is made of, places in a text, and bytes written out: for tests/fault_words.py and
+the files beside it."""
 import bisect
 import collections
 import itertools
+import re
 
 EDGE, LEAST, MOST, HIGHEST = 1_048_576, -2 ** 31, 2 ** 31 - 1, 8
 
@@ -20,6 +22,8 @@ FORMS = (
 )
 LETTERS = [form.letter.encode() for form in FORMS]
 TERMS = len(FORMS)  # from this line on there are terms
+PAIRS = (18, 19)  # the faults of a term's i and j
+WELL = re.compile(r"0|-?[1-9][0-9]*")  # how a number is written
 
 
 def as_text(form):
@@ -55,10 +59,15 @@ def number_at(place):
     return place.form.numbers[at] if place.field is not None and 0 <= at < len(place.form.numbers) else None
 
 
-def field_words(place):
+def is_pair(place, fault):
+    """Whether a fault is one of i and j together, which stand from field 2 to field 3."""
+    return fault in PAIRS and place.at >= TERMS and place.number == 2 and len(place.fields) > 2
+
+
+def field_words(place, fault):
     """Which field it is, and what belongs there."""
     number = number_at(place)
-    name = number.words if number else "the letter" if place.number == 1 else None
+    name = "the term's i and j" if is_pair(place, fault) else number.words if number else "the letter" if place.number == 1 else None
     return (f", field {place.number}" if place.number else "") + (f" ({name})" if name else "")
 
 
@@ -95,3 +104,15 @@ def word_of(field):
         return field.decode()
     except UnicodeDecodeError:
         return field.decode("cp1252", "replace")
+
+
+def numbers_in(line):
+    """The numbers after a line's letter, None for those that are badly written or very large."""
+    words = [word_of(field) for field in line.split(b"\t")[1:]]
+    return [int(word) if WELL.fullmatch(word) and len(word) <= 11 else None for word in words]
+
+
+def exponents(line):
+    """i and j of a line, or None."""
+    both = numbers_in(line)[:2]
+    return both if len(both) == 2 and None not in both else None

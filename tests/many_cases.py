@@ -1,8 +1,8 @@
 """Random cases and texts for tests/many.py: every input of every call at random, nothing by turns.
 
 They are made as in tests/cases.py, tests/text_cases.py and tests/fault_cases.py. Beside those stand cases in which any input may be any number of its
-type, and texts with a random one, or some at once, of all the faults there. Every depth is walked often; the deepest ones, whose walks are slow, are rarer. What lent places hold is
-drawn by itself, in tests/many.py.
+type, and texts with a random one, or some at once, of all the faults there. Every depth is walked often; the deepest ones, whose walks are slow, are
+rarer. What lent places hold is drawn by itself, in tests/many.py.
 """
 from case_sheets import EDGE, LEAST31, MOST31, accepted, any_far_out, ends, heavier
 from cases import ENTRIES, LEAST63, MOST32, MOST63, SINGLE, WALKS, arguments, given, other_count, random_case, random_walks
@@ -10,8 +10,8 @@ from fault_cases import any_faults
 from second_text import LONGEST
 from text_cases import (
     BYTES, CEILING, NEGATIVE, NOT_WRITTEN, RANGES, TOO_LARGE, Case,
-    anywhere, at_the_limit, bad_number, below_the_limit, cut, damaged, good, long_texts, mixed, moves, out_of_range, quick, reshaped, rows_of, several,
-    small, terms_of, text_of,
+    anywhere, at_the_limit, bad_number, below_the_limit, cut, damaged, good, long_texts, mixed, moves, out_of_range, quick, reshaped, rows_of,
+    several, small, terms_of, text_of,
 )
 
 # of a hundred walks, and of a hundred good texts, how many are of each depth
@@ -40,7 +40,8 @@ def loose(rng, g):
         at = rng.randrange(len(coefficients))
         coefficients[at] = other(coefficients[at], -9, 9, LEAST31, MOST31)
     X, Y = (other(corner, -EDGE, EDGE, LEAST31, MOST31) for corner in (X, Y))
-    sheet = g.sheet._replace(d=other(d, 0, 8, 0, MOST32), coefficients=coefficients, X=X, Y=Y, s=other(s, 0, 10, 0, MOST32), k=other(k, 0, 7, 0, MOST32))
+    sheet = g.sheet._replace(d=other(d, 0, 8, 0, MOST32), coefficients=coefficients, X=X, Y=Y, s=other(s, 0, 10, 0, MOST32),
+                             k=other(k, 0, 7, 0, MOST32))
     U, V = (other(now, *ends(sheet, corner), LEAST63, MOST63) for now, corner in ((g.U, X), (g.V, Y)))
     j = other(g.j, 0, min(sheet.k, 7), 0, MOST32)
     p, q = (other(now, 0, 2 ** min(j, 7) - 1, 0, MOST32) for now in (g.p, g.q))

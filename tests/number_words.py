@@ -8,11 +8,10 @@ import math
 import re
 import unicodedata
 
-from line_forms import right, word_of
+from line_forms import WELL, right, word_of
 
-WELL = re.compile(r"0|-?[1-9][0-9]*")
 LONGEST = 40  # letters: of what is longer nothing is sure
-BLANK = r"[\s\u200b\u2060\ufeff]"
+BLANK = r"(?:(?!\r)[\s\u200b\u2060\ufeff])"
 DIGITS = str.maketrans("OolI", "0011")
 
 
@@ -31,10 +30,10 @@ SLIPS = (
     (r"^(['\"`])(.*)\1$", r"\2", "no quotes around it"),
     (r"[\u2010-\u2015\u2212\ufe58\ufe63\uff0d]", "-", "a plain - for a minus"),
     (r"(?![0-9])\d", lambda found: str(unicodedata.decimal(found[0])), "the digits 0 to 9"),
-    (r"^[-+]?[\dOolI]+$", lambda found: found[0].translate(DIGITS), "digits, and no letters like them"),
+    (r"^[-+]?(?=.*\d)[\dOolI]+$", lambda found: found[0].translate(DIGITS), "digits, and no letters like them"),
     (r"^\+", "", "no plus"),
     (rf"(?<=^-){BLANK}+", "", "no blank after its minus"),
-    (grouped(","), digits_of, "no comma"),
+    (grouped(",", 2), digits_of, "no comma"),
     (grouped(BLANK), digits_of, "no blank in it"),
     (grouped("['\u2019_]"), digits_of, "no sign between its digits"),
     (grouped(r"\.", 2), digits_of, "no point"),
@@ -71,9 +70,12 @@ def in_parts(number, has, value):
     return [f"{said}. All coefficients times {value.denominator} draw the same curve: this one is {value.numerator} then."]
 
 
-def thousands(word):
-    """A point before three digits may part thousands."""
-    return [f"If the point parts thousands, write {word.replace('.', '')}."] if re.fullmatch(grouped(r"\."), word) else []
+def thousands(number, word):
+    """A point or a comma before three digits may part thousands."""
+    if not re.fullmatch(grouped("[.,]"), word):
+        return []
+    value = int(re.sub("[.,]", "", word))
+    return [f"If the {'point' if '.' in word else 'comma'} parts thousands, write {value}."] if number.least <= value <= number.most else []
 
 
 def hints(field, number):
@@ -89,6 +91,6 @@ def hints(field, number):
             value = fractions.Fraction(word.replace(",", "."))
             has = " and ".join([*has, next(words for sign, words in PARTS.items() if sign in word.lower())])
             said = instead(number, f"A number has {has}", value.numerator) if value.denominator == 1 else in_parts(number, has, value)
-            return said + thousands(word)
+            return said + thousands(number, word)
     sign = ", with a plain - before them if it is below 0" if number.least < 0 else ""
     return [f"A number is digits alone{sign}.", right(number)]

@@ -180,7 +180,7 @@ def small_tree(tree):
     """What the script needs, in a tree of its own, with a stand-in for rt that ends as it is told and notes that it ran."""
     for place in ("crates/listing/src", "tests", "target/bin", "target/stamp", "rt"):
         (tree / place).mkdir(parents=True)
-    modules = ("fault_words", "in_words", "line_forms", "number_words", "program", "too_heavy", "whole_file")
+    modules = ("fault_words", "in_words", "line_forms", "number_words", "program", "slip_words", "too_heavy", "whole_file")
     for name in ("sheet", *(f"tests/{module}.py" for module in modules), "crates.txt", "crates/listing/src/main.rt"):
         shutil.copy(ROOT / name, tree / name)
     (tree / "rt" / "rt").write_text(STAND_IN)

@@ -3,11 +3,17 @@
     python3 tests/script_faults.py
 
 The second program says which number, line and field a text is refused by (tests/second_text.py), and the script's words are made of those
-(tests/in_words.py). Of some texts every word is known. The slips of a typist are made in every field; what is said to mend one is done, the commands
-by a shell, and the second program answers the text that comes of it. On random texts the marks stand below the field, column by column. And whatever
-bytes a text has, and whatever is answered, there are words.
+(tests/in_words.py). Of some texts every word is known. A number is written amiss in every field.
+
+What is said to be done is done, wherever it is said: of these texts, of random texts, and of texts with several slips of a typist in one. A command
+is run by a shell. If it "mends" the line, the second program finds no fault there any more, nor before it; if it "helps", none is before the line.
+A number, or a degree, that is to be written is put in, and its fault is gone. The commands are followed so from text to text, and a number that may
+be read in two ways is never changed unseen.
+
+On random texts the marks stand below the field, column by column. And whatever bytes a text has, and whatever is answered, there are words.
 """
 import fractions
+import functools
 import pathlib
 import random
 import re
@@ -20,26 +26,35 @@ import second_text
 from fault_words import FAULTS
 from in_words import REASONS, refusal
 from program import ROOT
-from script_words import AMISS, AMISS_WIDE, COMMANDED, GOOD, LIGHT, MENDS, MENDS_BLANKS, MENDS_CR, NOT_WHOLE, RANGES, TOLD, WIDE, put
+from script_words import (AMISS, AMISS_WIDE, COMMANDED, GOOD, LIGHT, MENDS, MENDS_BLANKS, MENDS_CR, NOT_WHOLE, RANGES, TOLD, UNSEEN, WIDE, put,
+                          with_slips)
 
-SEED, RANDOM = 20250711, 4000
+SEED, RANDOM, SLIPPED = 20250711, 4000, 500
 COUNTS = {b"D": 1, b"B": 3, b"K": 1, b"M": 1, b"T": 3}
 FIELDS = {(letter, field) for letter, count in COUNTS.items() for field in range(1, count + 2)}
 NUMBERS = range(14, 21)
 
 
+@functools.lru_cache(10)
 def answered(text):
     """The number, the line and the field by which the second program refuses a text."""
     return second_text.read(text)[:3]
 
 
+@functools.lru_cache(10)
 def told(text):
     """What the script says of a text."""
     return refusal(text, second_text.line_of(b"refused", *answered(text)))
 
 
-# ---- every word of some texts, and commands
+# ---- what is said to be done is done
 
+COMMAND = re.compile(r"    This (mends it|helps): (.+)")
+WRITE = re.compile(r"write (-?\d+)(?: or (-?\d+))?\.|this one is (-?\d+) then\.")
+DEGREE = re.compile(r"Write D<tab>(\d+) in line 1")
+
+
+@functools.lru_cache(10)
 def mended(text, command):
     """What a command makes of a text, run as a person runs it."""
     with tempfile.TemporaryDirectory() as folder:
@@ -48,12 +63,57 @@ def mended(text, command):
         return (pathlib.Path(folder) / "new.sheet").read_bytes()
 
 
+def commanded(text):
+    """The command that is said for a text, and whether it mends the line; or none."""
+    found = [*filter(None, map(COMMAND.fullmatch, told(text)))]
+    return (found[0][2], found[0][1] == "mends it") if found else None
+
+
+def with_field(text, at, field, word):
+    """A text with a field exchanged."""
+    fields = text.split(b"\n")[at - 1].split(b"\t")
+    fields[field - 1] = word if isinstance(word, bytes) else word.encode()
+    return put(at, b"\t".join(fields), text)
+
+
+def is_done(text):
+    """Whether all that is said of a text does what is said."""
+    (number, at, field), said, command = answered(text), "\n".join(told(text)), commanded(text)
+    if command:
+        after = answered(mended(text, command[0]))[1]
+        if 0 < after < at + command[1]:  # before the line, or at a line that is said to be mended
+            return False
+    if number == 16:
+        values = [value for values in WRITE.findall(said) for value in values if value]
+        return not any(answered(with_field(text, at, field, value)) in ((16, at, field), (17, at, field)) for value in values)
+    return number != 18 or all(answered(put(1, b"D\t" + degree.encode(), text)) != answered(text) for degree in DEGREE.findall(said))
+
+
+def done_checks(rng):
+    """Texts with several slips: what is said is followed, from text to text, as long as there is a command."""
+    wrong, mends, good, unseen = [], 0, 0, []
+    for start in [*(with_slips(rng) for _ in range(SLIPPED)), *UNSEEN]:
+        text, command = start, ("", False)
+        while command:
+            wrong += [text] * (not is_done(text))
+            command = commanded(text)
+            mends += bool(command and command[1])
+            text = mended(text, command[0]) if command else text
+        good += text == GOOD
+        unseen += [start] * (start in UNSEEN and not answered(text)[0])
+    yield f"what is said of texts with slips is done, but for {wrong[:1]}", not wrong
+    yield f"{mends} lines are mended, and {good} texts are good at last", mends > SLIPPED // 4 and good > SLIPPED // 4
+    yield f"no number is changed unseen, but in {unseen[:1]}", not unseen
+
+
+# ---- every word of some texts
+
 def word_checks():
-    """Every word of some texts, and the commands."""
+    """Every word of some texts, and the commands that make them good."""
     yield "texts for each number", {number for _, number, *_ in TOLD} == {*NUMBERS}
     for text, number, first, *more in TOLD:
         said = [f"refused by {number}: {first}", *(f"    {line}" for line in more)]
-        yield f"what is said of {text[:80]!r}: {told(text)}", told(text) == said
+        yield f"what is said of {text[:80]!r}: {told(text)}", told(text) == said and is_done(text)
     for text, words in COMMANDED:
         said = told(text)
         is_said = said[-2] == f"    {words}" and said[-1].startswith(f"    {MENDS}")
@@ -64,15 +124,12 @@ def word_checks():
 
 # ---- a typist's slips in every field
 
-WRITE = re.compile(r"write (-?\d+)(?: or (-?\d+))?\.")
 TIMES = re.compile(r"\. All coefficients times (\d+) draw the same curve: this one is (-?\d+) then\.")
 
 
 def spoiled(at, field, word):
-    """A text with a field exchanged."""
-    fields = LIGHT.split(b"\n")[at - 1].split(b"\t")
-    fields[field - 1] = word if isinstance(word, bytes) else word.encode()
-    return put(at, b"\t".join(fields), LIGHT)
+    """A good text with a field exchanged."""
+    return with_field(LIGHT, at, field, word)
 
 
 def slip_checks():
@@ -84,13 +141,8 @@ def slip_checks():
             for word, words, number in slips:
                 text = spoiled(at, field, word)
                 hint = told(text)[3].strip()
-                write = WRITE.search(hint)
-                answers = {second_text.read(spoiled(at, field, other))[0] for other in (write.groups() if write else ()) if other}
-                if number is None:
-                    is_said = hint.startswith(words) and answers <= {0, 18}
-                else:
-                    is_said = hint == f"{words}: write {number}." and answers == {0}
-                yield f"{word!r} in line {at}, field {field}: {hint}", answered(text) == (16, at, field) and is_said
+                is_said = hint.startswith(words) if number is None else hint == f"{words}: write {number}."
+                yield f"{word!r} in line {at}, field {field}: {hint}", answered(text) == (16, at, field) and is_said and is_done(text)
 
 
 def range_checks():
@@ -132,6 +184,8 @@ def marks_fault(text, answer, said):
         return "another line, or one that is too long or too short"
     if line and field:
         *before, met = lines[at - 1].split(b"\t")[:field]
+        if number in (18, 19):  # of i and j
+            met = b"\t".join(lines[at - 1].split(b"\t")[1:3])
         start, end = len(out(b"".join(some + b"\t" for some in before))), len(out(b"\t".join([*before, met])))
         is_below = marks == " " * start + "^" * max(1, min(end, len(shown[:-3] if shown != line else line)) - start)
         return None if is_below else "marks that are not below the field"
@@ -171,7 +225,7 @@ def mark_checks(rng):
         answer = number, at, field = answered(text)
         if number in NUMBERS:
             said = told(text)
-            fault = marks_fault(text, answer, said)
+            fault = marks_fault(text, answer, said) or (None if is_done(text) else "what is said to be done does not do it")
             faults += [(text, said, fault)] * bool(fault)
             kinds = {"long": said[1].endswith("..."), "empty": "nothing stands" in said[0], "odd": r"\x" in said[1]}
             met |= {number, (b"DBKM"[at - 1:at] or b"T", field), *((kind, number) for kind, is_met in kinds.items() if is_met)}
@@ -247,6 +301,7 @@ def checks():
     yield from word_checks()
     yield from slip_checks()
     yield from range_checks()
+    yield from done_checks(rng)
     yield from mark_checks(rng)
     yield from any_checks(rng)
     yield from page_checks()

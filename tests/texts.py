@@ -10,10 +10,12 @@ for each 54 words of 8 bytes, all little-endian: the number, the line, the field
 what `answer` answers, and the entries that are shown. Every answer is compared with that of tests/second_text.py; and where the number, the line and
 the field are known from how a text was made, the second program is held to them.
 
-A run fails, too, in which one of these never came up: some refusal, some bad, missing or unended line, some number at some field of some kind of line,
-some two or three faults at once in one line (tests/fault_cases.py), some length at the limit, some degree and depth, some mark at some level, some kind
-of sheet by its weight, some content of some kind of place. And so does one whose texts do not tell some wrong rule from the right one: for the weight by
-their numbers (tests/weights.py), for the faults of lines by number, line and field (tests/fault_rules.py).
+A run fails, too, in which one of these never came up: some refusal, some bad, missing or unended line, some number at some field of some kind of
+line, some one, two or three faults in one line, and just these (tests/fault_cases.py), some length at the limit, some degree and depth, some mark at
+some level, some kind of sheet by its weight, some content of some kind of place. What faults a line has is found by looking at it: a fault that was
+put in and is not seen makes a run fail, as do two that are seen in one line and are said not to stand together. So do texts that do not tell some
+wrong rule from the right one: for the weight by their numbers (tests/weights.py), for the faults of lines by number, line and field
+(tests/fault_rules.py).
 
 Then target/bin/listing itself is run: on the page's whole case, on input that comes in pieces, that is empty, far too long, or cannot be read, at all
 or after some of it, with an output that cannot be written (tests/streams.py), on a text of each kind, and on those of sheets/, whose stored listings it
@@ -212,10 +214,11 @@ def tally(cases, told, items):
 
 
 def untold_by(cases, told):
-    """The wrong rules that the texts do not tell from the right ones; and faults at fields where they cannot stand."""
+    """The wrong rules that the texts do not tell from the right ones; faults at fields where they cannot stand, and faults put in wrongly."""
     yield from weights.untold("read", [(described(case.text, answer[0]), answer[0]) for case, (answer, _) in zip(cases, told)])
     yield from fault_rules.untold([(case.text, fault_rules.of_lines(*answer[:3])) for case, (answer, _) in zip(cases, told)])
     yield from fault_cases.impossible(answer[:3] for answer, _ in told if answer[0] >= 14)
+    yield from fault_cases.misput(cases, [answer[:3] for answer, _ in told])
 
 
 # ---- the listing program
