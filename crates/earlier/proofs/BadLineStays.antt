@@ -246,7 +246,7 @@ same-outcome text = rw (same-text (lines text)) (by (ltb 8_192 (length text)) (t
     by : (long : Bool) (t : Text) → ltb 8_192 (length text) ≡ long → text-of (lines text) ≡ t
         → cond long (ten-refused 11 0) (ten-outcome-of (text-as-ten t)) ≡ as-ten (cond long (refused 11 0 0) (outcome-of t))
     by true t h e = refl
-    by false (bad-line n f) h e = rw (le-leb 14 (f .number) (fault-numbered (fault-placed (lines text) n f e) .0))
+    by false (bad-line n f) h e = ap (λ t. ten-refused (cond t 10 (f .number)) n) (sym (le-leb 14 (f .number) (fault-numbered (fault-placed (lines text) n f e) .0)))
     by false (well-formed w) h e = judged (refusal (to-read w)) (λ n k. below-14 text n (short-text text w h e ∙ k))
       where
         judged : (m : ℕ) → ((n : ℕ) → unless m (λ n. refused n 0 0) (accepted w) ≡ refused n 0 0 → leb 14 n ≡ false)
