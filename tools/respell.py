@@ -5,7 +5,7 @@ usage: tools/respell.py            rewrites crates/, and what docs/ and README.m
        tools/respell.py --table    prints the names that it would turn, and writes nothing
 
 What turns: each name with a dash that specs/*.antt or a lemma file proofs/*.antt of some crate declares (a definition,
-a lemma, a field, a constructor). A dash becomes `_`, as in `sum_map` and `*_assoc`, but where it joins a name to an
+a lemma, a field, a constructor, a lemma within one). A dash becomes `_`, as in `sum_map` and `*_assoc`, but where it joins a name to an
 operator, as in `sum-+`. A word of the older library inside such a name is spelled as the library has it now.
 Names of the library, names that files in proofs/F/ declare for a function's goals, functions of src/, strings, inputs
 and outputs keep their spelling. A word is turned only where it stands whole.
@@ -35,7 +35,7 @@ def declared(text):
         match = DECLARED.match(line)
         if match and not line.lstrip().startswith("--"):
             inside = bool(match["space"])
-            if inside and "pub" not in match["words"]:
+            if inside and "pub" not in match["words"] and not line[match.end():].startswith(": "):
                 continue
             yield match["name"], match["words"].split(), inside
 

@@ -27,12 +27,12 @@ choose_over n zero h = omega arith
 choose_over zero (suc k) h = refl
 choose_over (suc n) (suc k) h = let p = choose_over n k (omega arith) in let q = choose_over n (suc k) (omega arith) in omega arith
 
-pub choose-≤_pow : (n k : ℕ) → choose n k ≤ 2 ^ n
+pub choose_≤_pow : (n k : ℕ) → choose n k ≤ 2 ^ n
 unfolding choose
-choose-≤_pow zero zero = Nat.le_refl 1
-choose-≤_pow zero (suc k) = omega arith
-choose-≤_pow (suc n) zero = let h = choose-≤_pow n zero in let e = choose_zero n in omega arith
-choose-≤_pow (suc n) (suc k) = let h = choose-≤_pow n k in let i = choose-≤_pow n (suc k) in omega arith
+choose_≤_pow zero zero = Nat.le_refl 1
+choose_≤_pow zero (suc k) = omega arith
+choose_≤_pow (suc n) zero = let h = choose_≤_pow n zero in let e = choose_zero n in omega arith
+choose_≤_pow (suc n) (suc k) = let h = choose_≤_pow n k in let i = choose_≤_pow n (suc k) in omega arith
 
 -- ---- the coefficient of t^k in (x + t)^n
 unfoldable pub shift : ℤ → ℕ → ℕ → ℤ
@@ -66,9 +66,9 @@ module _ (x : ℤ) where
 
 -- ---- to shift by x + y is to shift by x and then by y, with the sum over k < N for any N above n
 module _ (x y : ℤ) where
-  shift-step : (n N j : ℕ) → sum (run 0 (suc N)) (λ k. shift x (suc n) k *ℤ shift y k j)
+  shift_step : (n N j : ℕ) → sum (run 0 (suc N)) (λ k. shift x (suc n) k *ℤ shift y k j)
       ≡ sum (run 0 N) (λ k. shift x n k *ℤ shift y (suc k) j) +ℤ x *ℤ sum (run 0 (suc N)) (λ k. shift x n k *ℤ shift y k j)
-  shift-step n N j = simp (sum_run_shift, shift_suc_zero x, shift_suc x, +ℤ-*ℤ, *ℤ-+ℤ, sum-+, *ℤ_assoc, ← *ℤ-sum)
+  shift_step n N j = simp (sum_run_shift, shift_suc_zero x, shift_suc x, +ℤ-*ℤ, *ℤ-+ℤ, sum-+, *ℤ_assoc, ← *ℤ-sum)
       (ring ((x *ℤ (shift x n 0 *ℤ shift y 0 j)) ∷ sum (run 0 N) (λ k. shift x n k *ℤ shift y (suc k) j) ∷ (x *ℤ sum (run 0 N) (λ k. shift x n (suc k) *ℤ shift y (suc k) j)) ∷ [])
       (λ a b c. a ⊕ (b ⊕ c) ≐ b ⊕ (a ⊕ c)) tt)
 
@@ -76,10 +76,10 @@ module _ (x y : ℤ) where
   shift_+ n zero j h = absurd (Nat.not-suc-le-zero h)
   shift_+ zero (suc N) j h = simp (sum_run_shift, shift_zero x, pow_zero, shift_over x, Nat.zero-lt-suc, zero-*ℤ, sum_zero, +ℤ_idr, *ℤ_idl) (unfold shift in simp (Nat.zero-sub, pow_zero))
   shift_+ (suc n) (suc N) zero h =
-      simp (shift-step n N, shift_suc_zero, *ℤ_left_comm, ← *ℤ-sum, ← (shift_+ n N 0 (omega arith)), ← (shift_+ n (suc N) 0 (omega arith)))
+      simp (shift_step n N, shift_suc_zero, *ℤ_left_comm, ← *ℤ-sum, ← (shift_+ n N 0 (omega arith)), ← (shift_+ n (suc N) 0 (omega arith)))
       (ring (x ∷ y ∷ shift (x +ℤ y) n 0 ∷ []) (λ x y s. (x ⊕ y) ⊗ s ≐ y ⊗ s ⊕ x ⊗ s) tt)
   shift_+ (suc n) (suc N) (suc j) h =
-      simp (shift-step n N, shift_suc, *ℤ-+ℤ, sum-+, *ℤ_left_comm, ← *ℤ-sum, ← (shift_+ n N j (omega arith)), ← (shift_+ n N (suc j) (omega arith)), ← (shift_+ n (suc N) (suc j) (omega arith)))
+      simp (shift_step n N, shift_suc, *ℤ-+ℤ, sum-+, *ℤ_left_comm, ← *ℤ-sum, ← (shift_+ n N j (omega arith)), ← (shift_+ n N (suc j) (omega arith)), ← (shift_+ n (suc N) (suc j) (omega arith)))
       (ring (x ∷ y ∷ shift (x +ℤ y) n j ∷ shift (x +ℤ y) n (suc j) ∷ []) (λ x y r s. r ⊕ (x ⊕ y) ⊗ s ≐ r ⊕ y ⊗ s ⊕ x ⊗ s) tt)
 
 -- ---- the binomial theorem: (a + b)^n is the sum of C(n,k) a^(n-k) b^k over k = 0..n
@@ -102,22 +102,22 @@ binomial_term_size a b n k = elim (dec_lt n k) [
 
 -- ---- the tables of C(n,k) u^(n-k) h^k
 module _ (u h : ℤ) where
-  entry-shift : (n k : ℕ) → entry u h n k ≡ shift u n k *ℤ pow h k
+  entry_shift : (n k : ℕ) → entry u h n k ≡ shift u n k *ℤ pow h k
   unfolding entry shift
-  entry-shift n k = refl
+  entry_shift n k = refl
 
   pub entry_over : (n k : ℕ) → n < k → entry u h n k ≡ pos 0
-  entry_over n k l = rw (entry-shift, shift_over u n k l) (zero-*ℤ (pow h k))
+  entry_over n k l = rw (entry_shift, shift_over u n k l) (zero-*ℤ (pow h k))
 
   -- row by row, by Pascal's rule
   pub entry_first : entry u h 0 0 ≡ pos 1
-  entry_first = simp (entry-shift, shift_zero, pow_zero)
+  entry_first = simp (entry_shift, shift_zero, pow_zero)
 
   pub entry_suc_zero : (n : ℕ) → entry u h (suc n) 0 ≡ u *ℤ entry u h n 0
-  entry_suc_zero n = simp (entry-shift, shift_suc_zero, *ℤ_assoc)
+  entry_suc_zero n = simp (entry_shift, shift_suc_zero, *ℤ_assoc)
 
   pub entry_suc : (n k : ℕ) → entry u h (suc n) (suc k) ≡ h *ℤ entry u h n k +ℤ u *ℤ entry u h n (suc k)
-  entry_suc n k = rw (entry-shift (suc n) (suc k), entry-shift n k, entry-shift n (suc k), shift_suc u n k, pow_suc h k)
+  entry_suc n k = rw (entry_shift (suc n) (suc k), entry_shift n k, entry_shift n (suc k), shift_suc u n k, pow_suc h k)
       (ring (u ∷ h ∷ shift u n k ∷ shift u n (suc k) ∷ pow h k ∷ []) (λ u h s t p. (s ⊕ u ⊗ t) ⊗ (p ⊗ h) ≐ h ⊗ (s ⊗ p) ⊕ u ⊗ (t ⊗ (p ⊗ h))) tt)
 
   -- each entry is at most (|u| + |h|)^n

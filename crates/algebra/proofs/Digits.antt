@@ -41,15 +41,15 @@ module _ {n m : ℕ} (s : Length n m) where
       (λ t. elim (dec_le m k) [ yes l ↦ let g = s.past k l in absurd (omega (arith, leb→le)) | no l ↦ omega arith ])
       (λ t. elim (dec_le m k) [ yes l ↦ omega arith | no l ↦ let g = s.up k (omega arith) in absurd (omega (arith, nleb→lt)) ])
 
-  first-powers : (k : ℕ) → sumℕ (span 0 k) (λ i. cond (leb (2 ^ i) n) 1 0) ≡ min k m
-  first-powers zero = sumℕ_span_none 0 0 _ (Nat.le_refl 0) ∙ sym (Nat.zero-min m)
-  first-powers (suc k) =
+  first_powers : (k : ℕ) → sumℕ (span 0 k) (λ i. cond (leb (2 ^ i) n) 1 0) ≡ min k m
+  first_powers zero = sumℕ_span_none 0 0 _ (Nat.le_refl 0) ∙ sym (Nat.zero-min m)
+  first_powers (suc k) =
       let f : ℕ → ℕ = λ i. cond (leb (2 ^ i) n) 1 0 in
-      ap (λ j. sumℕ (span 0 j) f) (sym (add-one k)) ∙ sumℕ_span_next 0 k f (omega arith) ∙ ap (λ x. x + f k) (first-powers k) ∙ next_power k
+      ap (λ j. sumℕ (span 0 j) f) (sym (add-one k)) ∙ sumℕ_span_next 0 k f (omega arith) ∙ ap (λ x. x + f k) (first_powers k) ∙ next_power k
 
 digits_length : (n : ℕ) (h : n < 2 ^ 64) → digits n ≡ (has_length n h).0
 unfolding digits
-digits_length n h = let l = has_length n h in let e = l.1 in first-powers l.2 64 ∙ Nat.min-eq_right (omega arith)
+digits_length n h = let l = has_length n h in let e = l.1 in first_powers l.2 64 ∙ Nat.min-eq_right (omega arith)
 
 -- ---- 2^i is at most n where i is below the count of digits, and only there
 pub digits_spec : (n : ℕ) → n < 2 ^ 64 → (i : ℕ) → (2 ^ i ≤ n → i < digits n) × (i < digits n → 2 ^ i ≤ n)

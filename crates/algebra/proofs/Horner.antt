@@ -60,14 +60,14 @@ module _ (c : ℕ → ℤ) (u h : ℤ) (m : ℕ) where
 
 -- moved by 0 a polynomial is what it was
 module _ (c : ℕ → ℤ) (m : ℕ) where
-  shifted-still : (j a : ℕ) → j + a ≤ m → shifted c (pos 0) (pos 1) m j a ≡ c (j + a)
-  shifted-still j zero l = shifted_zero c (pos 0) (pos 1) m j (omega arith) ∙ ring (shifted c (pos 0) (pos 1) m (suc j) 0 ∷ c j ∷ []) (λ x c. x ⊗ # 0 ⊕ c ⊗ # 1 ≐ c) tt ∙ ap c (sym (Nat.add-zero j))
-  shifted-still j (suc a) l =
+  shifted_still : (j a : ℕ) → j + a ≤ m → shifted c (pos 0) (pos 1) m j a ≡ c (j + a)
+  shifted_still j zero l = shifted_zero c (pos 0) (pos 1) m j (omega arith) ∙ ring (shifted c (pos 0) (pos 1) m (suc j) 0 ∷ c j ∷ []) (λ x c. x ⊗ # 0 ⊕ c ⊗ # 1 ≐ c) tt ∙ ap c (sym (Nat.add-zero j))
+  shifted_still j (suc a) l =
       shifted_suc c (pos 0) (pos 1) m j a (omega arith) ∙ ring (shifted c (pos 0) (pos 1) m (suc j) (suc a) ∷ shifted c (pos 0) (pos 1) m (suc j) a ∷ []) (λ x y. x ⊗ # 0 ⊕ y ⊗ # 1 ≐ y) tt
-      ∙ shifted-still (suc j) a (omega arith) ∙ ap c (omega arith)
+      ∙ shifted_still (suc j) a (omega arith) ∙ ap c (omega arith)
 
   pub still : (a : ℕ) → a ≤ m → sum (0 ⋯ m) (λ n. c n *ℤ entry (pos 0) (pos 1) n a) ≡ c a
-  still a l = sym (shifted_all c (pos 0) (pos 1) m a) ∙ shifted-still 0 a (omega arith) ∙ ap c (Nat.zero-add a)
+  still a l = sym (shifted_all c (pos 0) (pos 1) m a) ∙ shifted_still 0 a (omega arith) ∙ ap c (Nat.zero-add a)
 
 -- ---- the loads
 module _ (c : ℕ → ℤ) (b m : ℕ) where

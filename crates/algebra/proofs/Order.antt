@@ -97,8 +97,8 @@ pub <ℤ_by : {a b c d : ℤ} → c <ℤ d → b -ℤ a ≡ d -ℤ c → a <ℤ 
 pub ≤ℤ_of_<ℤ : {a b : ℤ} → a <ℤ b → a ≤ℤ b
 ≤ℤ_of_<ℤ {a} h = ≤ℤ_trans (≤ℤ_intro 1 refl) (<ℤ_step.0 h)
 
-pub ≤ℤ-<ℤ_trans : {a b c : ℤ} → a ≤ℤ b → b <ℤ c → a <ℤ c
-≤ℤ-<ℤ_trans h k = <ℤ_step.1 (≤ℤ_trans (+ℤ_mono h (≤ℤ_refl (pos 1))) (<ℤ_step.0 k))
+pub ≤ℤ_<ℤ_trans : {a b c : ℤ} → a ≤ℤ b → b <ℤ c → a <ℤ c
+≤ℤ_<ℤ_trans h k = <ℤ_step.1 (≤ℤ_trans (+ℤ_mono h (≤ℤ_refl (pos 1))) (<ℤ_step.0 k))
 
 test : {A B : Type 0} (c : Bool) → (T c → A) → (T (not c) → B) → A ⊎ B
 test true f g = inl (f tt)
@@ -148,11 +148,11 @@ pub *ℤ_mono_< : {a b c : ℤ} → pos 0 <ℤ c → a <ℤ b → (c *ℤ a) <�
 pub *ℤ_mono₂ : {a b c d : ℤ} → pos 0 ≤ℤ a → a ≤ℤ b → pos 0 ≤ℤ c → c ≤ℤ d → (a *ℤ c) ≤ℤ (b *ℤ d)
 *ℤ_mono₂ ha h hc k = ≤ℤ_trans (*ℤ_mono ha k) (*ℤ_mono_r (≤ℤ_trans hc k) h)
 
-pub *ℤ-≤ℤ_cancel : {a b c : ℤ} → pos 0 <ℤ c → (c *ℤ a) ≤ℤ (c *ℤ b) → a ≤ℤ b
-*ℤ-≤ℤ_cancel {a} {b} k h = elim (<ℤ_or_≥ℤ b a) [ inl l ↦ absurd (<ℤ_irrefl (<ℤ-≤ℤ_trans (*ℤ_mono_< k l) h)) | inr l ↦ l ]
+pub *ℤ_≤ℤ_cancel : {a b c : ℤ} → pos 0 <ℤ c → (c *ℤ a) ≤ℤ (c *ℤ b) → a ≤ℤ b
+*ℤ_≤ℤ_cancel {a} {b} k h = elim (<ℤ_or_≥ℤ b a) [ inl l ↦ absurd (<ℤ_irrefl (<ℤ-≤ℤ_trans (*ℤ_mono_< k l) h)) | inr l ↦ l ]
 
 pub *ℤ_cancel_l : {a b c : ℤ} → pos 0 <ℤ c → c *ℤ a ≡ c *ℤ b → a ≡ b
-*ℤ_cancel_l k e = ≤ℤ_antisymm (*ℤ-≤ℤ_cancel k (≤ℤ_of_≡ e)) (*ℤ-≤ℤ_cancel k (≤ℤ_of_≡ (sym e)))
+*ℤ_cancel_l k e = ≤ℤ_antisymm (*ℤ_≤ℤ_cancel k (≤ℤ_of_≡ e)) (*ℤ_≤ℤ_cancel k (≤ℤ_of_≡ (sym e)))
 
 pub square_nonneg : (a : ℤ) → pos 0 ≤ℤ (a *ℤ a)
 square_nonneg (pos n) = nonneg (n * n)

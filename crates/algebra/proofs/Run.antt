@@ -134,16 +134,16 @@ sum_run_shift n f = ap (λ x. f 0 +ℤ x) (ap (λ l. sum l f) (run_map 0 n) ∙ 
 pub sum_span_zero : (a n : ℕ) (f : ℕ → ℤ) → ((i : ℕ) → a ≤ i → i < n → f i ≡ pos 0) → sum (span a n) f ≡ pos 0
 sum_span_zero a n f h = sum_cong (span a n) (λ i m. let (l, k) = span_member a n m in h i l k) ∙ sum_zero (span a n)
 
-pub sum-⋯_from : (a b : ℕ) (f : ℕ → ℤ) → ((i : ℕ) → i < a → f i ≡ pos 0) → sum (0 ⋯ b) f ≡ sum (a ⋯ b) f
+pub sum_⋯_from : (a b : ℕ) (f : ℕ → ℤ) → ((i : ℕ) → i < a → f i ≡ pos 0) → sum (0 ⋯ b) f ≡ sum (a ⋯ b) f
 unfolding ◌⋯◌
-sum-⋯_from a b f h = elim (dec_le a (suc b)) [
+sum_⋯_from a b f h = elim (dec_le a (suc b)) [
   | yes l ↦ rw (span-++ 0 a (suc b) (omega arith) l, sum-++, sum_span_zero 0 a f (λ i l k. h i k)) (+ℤ_idl (sum (span a (suc b)) f))
   | no l ↦ sum_span_zero 0 (suc b) f (λ i p k. h i (omega arith)) ∙ sym (sum_span_none a (suc b) f (omega arith))
 ]
 
-pub sum-⋯_upto : (b c : ℕ) (f : ℕ → ℤ) → b ≤ c → ((i : ℕ) → b < i → i ≤ c → f i ≡ pos 0) → sum (0 ⋯ b) f ≡ sum (0 ⋯ c) f
+pub sum_⋯_upto : (b c : ℕ) (f : ℕ → ℤ) → b ≤ c → ((i : ℕ) → b < i → i ≤ c → f i ≡ pos 0) → sum (0 ⋯ b) f ≡ sum (0 ⋯ c) f
 unfolding ◌⋯◌
-sum-⋯_upto b c f h z = sym (ap (λ l. sum l f) (span-++ 0 (suc b) (suc c) (omega arith) (omega arith)) ∙ sum-++ (span 0 (suc b)) (span (suc b) (suc c)) f
+sum_⋯_upto b c f h z = sym (ap (λ l. sum l f) (span-++ 0 (suc b) (suc c) (omega arith) (omega arith)) ∙ sum-++ (span 0 (suc b)) (span (suc b) (suc c)) f
     ∙ ap (λ x. sum (span 0 (suc b)) f +ℤ x) (sum_span_zero (suc b) (suc c) f (λ i l k. z i l (omega arith))) ∙ +ℤ_idr (sum (span 0 (suc b)) f))
 
 -- ---- a part of a range has a part of the sum

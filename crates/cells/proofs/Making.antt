@@ -67,14 +67,14 @@ module _ {S : Sheet} (a : Accepted S) {form : Form} (f : Tabled S.d (scaled S) f
 
     module _ {there : List ℤ} (w : Moved S.d (U0 S j p) (V0 S j q) form.places there) where
       -- the power of the half_side
-      half-power : (n m : ℕ) → pos (2 ^ Places.doublings (S.s + S.k - j) 0 n m) ≡ pow (pos (half_side S j)) n
-      half-power n m =
+      half_power : (n m : ℕ) → pos (2 ^ Places.doublings (S.s + S.k - j) 0 n m) ≡ pow (pos (half_side S j)) n
+      half_power n m =
           let e = S.s + S.k - j in let same : e * n + 0 * m ≡ e * n = rw (Nat.zero-mul m) (Nat.add-zero (e * n)) in
           ap (λ x. pos (2 ^ x)) same ∙ sym (pos_pow 2 (e * n)) ∙ pow_* (pos 2) e n ∙ ap (λ x. pow x n) (pos_pow 2 e)
 
       place_is : (a b : ℕ) → a + b ≤ S.d → held there S.d a b *ℤ pos (2 ^ Places.doublings (S.s + S.k - j) 0 (a + b) (S.d - a - b)) ≡ G S j p q a b
       unfolding G moved
-      place_is a b l = rw (w.each a b l, half-power (a + b) (S.d - a - b), moved_agree S.d (held form.places S.d) (scaled S) (U0 S j p) (V0 S j q) (pos 1) f.each a b) (sym (moved_scaled S.d (scaled S) (U0 S j p) (V0 S j q) (pos (half_side S j)) a b))
+      place_is a b l = rw (w.each a b l, half_power (a + b) (S.d - a - b), moved_agree S.d (held form.places S.d) (scaled S) (U0 S j p) (V0 S j q) (pos 1) f.each a b) (sym (moved_scaled S.d (scaled S) (U0 S j p) (V0 S j q) (pos (half_side S j)) a b))
 
       pub place_fits : Places.Scalable S.d (S.s + S.k - j) 0 there
       place_fits = record {

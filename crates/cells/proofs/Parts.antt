@@ -62,23 +62,23 @@ module _ (S : Sheet) (j p q : ℕ) (above : j < S.k) where
   abbrev inner : ℕ → ℕ → ℤ
   inner a b = local (polynomial S) (centre S j p q) half (a ∷ b ∷ [])
 
-  inner-doubled : (a b : ℕ) → G S j p q a b ≡ pow (pos 2) (a + b) *ℤ inner a b
+  inner_doubled : (a b : ℕ) → G S j p q a b ≡ pow (pos 2) (a + b) *ℤ inner a b
   unfolding total
-  inner-doubled a b =
+  inner_doubled a b =
       let e : a + (b + 0) ≡ a + b = omega arith in
       G_is S j p q a b ∙ ap (λ h. local (polynomial S) (centre S j p q) h (a ∷ b ∷ [])) halves ∙ local_half (polynomial S) (centre S j p q) half (a ∷ b ∷ []) ∙ ap (λ n. pow (pos 2) n *ℤ inner a b) e
 
   -- the centre of a part
-  centre-side : (c s : ℤ) (m r : ℕ) → Side s m r → c +ℤ pos ((2 * r + 1) * half) ≡ c +ℤ pos ((2 * m + 1) * half_side S j) +ℤ pos half *ℤ s
-  centre-side c s m r o =
+  centre_side : (c s : ℤ) (m r : ℕ) → Side s m r → c +ℤ pos ((2 * r + 1) * half) ≡ c +ℤ pos ((2 * m + 1) * half_side S j) +ℤ pos half *ℤ s
+  centre_side c s m r o =
       rw halves (≡_by (ap (λ x. x *ℤ pos half) o.odd)
       (ring (c ∷ s ∷ pos m ∷ pos r ∷ pos half ∷ []) (λ c s m r h. c ⊕ (# 2 ⊗ r ⊕ # 1) ⊗ h ⊖ (c ⊕ (# 2 ⊗ m ⊕ # 1) ⊗ (# 2 ⊗ h) ⊕ h ⊗ s) ≐ (# 2 ⊗ r ⊕ # 1) ⊗ h ⊖ (# 2 ⊗ (# 2 ⊗ m ⊕ # 1) ⊕ s) ⊗ h) tt))
 
   module _ {s z : ℤ} {r t : ℕ} (across : Side s p r) (along : Side z q t) where
-    part-form : (a b : ℕ) → a + b ≤ S.d → moved S.d inner s z (pos 1) a b ≡ G S (j + 1) r t a b
-    part-form a b l =
+    part_form : (a b : ℕ) → a + b ≤ S.d → moved S.d inner s z (pos 1) a b ≡ G S (j + 1) r t a b
+    part_form a b l =
         let there : corner (centre S j p q) half (pair s z) ≡ centre S (j + 1) r t =
-        corner_pair (U0 S j p) (V0 S j q) half s z ∙ ap₂ pair (sym (centre-side (pos (2 ^ (S.k + 1)) *ℤ S.X) s p r across)) (sym (centre-side (pos (2 ^ (S.k + 1)) *ℤ S.Y) z q t along)) in
+        corner_pair (U0 S j p) (V0 S j q) half s z ∙ ap₂ pair (sym (centre_side (pos (2 ^ (S.k + 1)) *ℤ S.X) s p r across)) (sym (centre_side (pos (2 ^ (S.k + 1)) *ℤ S.Y) z q t along)) in
         sym (local_part_plane S.d (2 ^ (S.k + 1)) (A S) (centre S j p q) half s z a b l) ∙ ap (λ c. local (polynomial S) c half (a ∷ b ∷ [])) there ∙ sym (G_is S (j + 1) r t a b)
 
     -- so the halved form of the cell is near to a part's
@@ -95,16 +95,16 @@ module _ (S : Sheet) (j p q : ℕ) (above : j < S.k) where
         wide = (let o = across.one in omega arith, let o = along.one in omega arith);
         light = rw (triangle_agree S.d (λ a b. nat_abs (held new S.d a b) * (2 ^ a * 2 ^ b)) (λ a b. nat_abs (G S j p q a b)) doubled) (let w = sizes_light S j p q f.accepted f.cell in omega arith);
       };
-      each = λ a b l. moved_agree S.d (held new S.d) inner s z (pos 1) halved a b ∙ part-form a b l;
+      each = λ a b l. moved_agree S.d (held new S.d) inner s z (pos 1) halved a b ∙ part_form a b l;
       unused = λ n l. h.rest n l ∙ f.unused n l;
     }
       where
         halved : (a b : ℕ) → a + b ≤ S.d → held new S.d a b ≡ inner a b
-        halved a b l = h.each a b l ∙ ap (λ x. shr_z x (2 ^ (a + b))) (f.each a b l ∙ inner-doubled a b) ∙ halved_exact (inner a b) (a + b)
+        halved a b l = h.each a b l ∙ ap (λ x. shr_z x (2 ^ (a + b))) (f.each a b l ∙ inner_doubled a b) ∙ halved_exact (inner a b) (a + b)
 
         doubled : (a b : ℕ) → a + b ≤ S.d → nat_abs (held new S.d a b) * (2 ^ a * 2 ^ b) ≡ nat_abs (G S j p q a b)
         doubled a b l =
-            rw (halved a b l, inner-doubled a b, nat_abs-*ℤ (pow (pos 2) (a + b)), nat_abs_pow, ← (pow-add 2 a b)) (Nat.mul_comm (nat_abs (inner a b)) (2 ^ (a + b)))
+            rw (halved a b l, inner_doubled a b, nat_abs-*ℤ (pow (pos 2) (a + b)), nat_abs_pow, ← (pow-add 2 a b)) (Nat.mul_comm (nat_abs (inner a b)) (2 ^ (a + b)))
 
 -- ---- the whole sheet has nothing to be moved by
 pub whole_near : {S : Sheet} {places : List ℤ} → CellForm S 0 0 0 places → Near S 0 0 0 (pos 0) (pos 0) places

@@ -10,12 +10,12 @@ use lib.IntN.{ℤ}
 use lib.ListN.{length, get_or, drop}
 use Rattle.page.specs.Refusals.{refusal, unless}
 use Rattle.page.specs.SheetLine.{Line, lines, fields, is_written, is_within, worth, signed, unsigned, is_letter, letter_field, number_fields, reads_well, Trial, ◌at_field◌when◌, field_faults, number_faults, line_faults, Numbers, faulty, good, first_fault, worths, line_numbers}
-use Rattle.page.specs.SheetText.{Term, term_of, is_named, is_beyond, Said, Text, bad-line, well-formed, with_line, line_then, with_terms, term_numbers, terms_from, text_of, to_read, Outcome, refused, accepted, outcome_of, outcome}
+use Rattle.page.specs.SheetText.{Term, term_of, is_named, is_beyond, Said, Text, bad_line, well_formed, with_line, line_then, with_terms, term_numbers, terms_from, text_of, to_read, Outcome, refused, accepted, outcome_of, outcome}
 use Rattle.page.proofs.ReadFacts.{read_never}
 use Rattle.page.proofs.TextWalk.{fault_numbered}
 use Rattle.page.proofs.TextFaults.{fault_placed}
 use Rattle.reading.specs.Answers.{reading_of, reading}
-use Rattle.earlier.specs.BadLine.{TenNumbers, ten-bad, ten-good, with_first, ten_numbers, ten_after_letter, is_admitted, ten_term_numbers, TenText, ten-bad-line, ten_with_line, ten_line_then, ten_terms_from, ten_text_of, ten-refused, ten-accepted, ten_outcome_of, ten_outcome}
+use Rattle.earlier.specs.BadLine.{TenNumbers, ten_bad, ten_good, with_first, ten_numbers, ten_after_letter, is_admitted, ten_term_numbers, TenText, ten_bad_line, ten_with_line, ten_line_then, ten_terms_from, ten_text_of, ten_refused, ten_accepted, ten_outcome_of, ten_outcome}
 use Rattle.earlier.specs.BadLineStays.{line_as_ten, SameLine, when_admitted, SameTerm, text_as_ten, SameText, as_ten, SameOutcome, SheetSame, AcceptedBefore, RefusedSame, RefusalSame}
 
 -- ---- whether no trial holds: then the line has its numbers
@@ -24,7 +24,7 @@ clear [] = true
 clear (t ∷ ts) = not t.holds && clear ts
 
 abbrev good_when : Bool → List ℤ → TenNumbers
-good_when b zs = cond b (ten-good zs) ten-bad
+good_when b zs = cond b (ten_good zs) ten_bad
 
 trials_told : (ts : List Trial) (zs : List ℤ) → line_as_ten (first_fault ts zs) ≡ good_when (clear ts) zs
 trials_told [] zs = refl
@@ -57,7 +57,7 @@ fields_told n (s ∷ ss) [] = rw (ne_eqb 0 (length (s ∷ ss)) (λ z. omega arit
 fields_told n (s ∷ ss) (f ∷ fs) =
     rw (same_count (length fs) (length ss)) (by (is_written f) (is_within s (worth f)) (eqb (length fs) (length ss)) (clear (number_faults (n + 1) ss fs)) (fields_told (n + 1) ss fs))
   where
-    by : (a b c e : Bool) {r : TenNumbers} → r ≡ good_when (c && e) (map worth fs) → cond (a && b) (with_first (worth f) r) ten-bad ≡ good_when (c && (not (not a) && (not (not b) && e))) (worth f ∷ map worth fs)
+    by : (a b c e : Bool) {r : TenNumbers} → r ≡ good_when (c && e) (map worth fs) → cond (a && b) (with_first (worth f) r) ten_bad ≡ good_when (c && (not (not a) && (not (not b) && e))) (worth f ∷ map worth fs)
     by true true true true h = ap (with_first (worth f)) h
     by true true true false h = ap (with_first (worth f)) h
     by true true false e h = ap (with_first (worth f)) h
@@ -82,12 +82,12 @@ line_told letter n between l zs =
 
 -- a line that was good, by its fields gs
 was_good : (letter : ℕ) (ns : List Bool) (gs : List (List ℕ)) (e : Bool) → let fs = drop 1 gs in
-    cond e (ten_after_letter letter ns gs) ten-bad ≡ good_when (is_letter letter (get_or gs 0 []) && (eqb (length fs) (length ns) && (clear (number_faults 2 ns fs) && e))) (map worth fs)
+    cond e (ten_after_letter letter ns gs) ten_bad ≡ good_when (is_letter letter (get_or gs 0 []) && (eqb (length fs) (length ns) && (clear (number_faults 2 ns fs) && e))) (map worth fs)
 was_good letter ns [] true = refl
 was_good letter ns [] false = refl
 was_good letter ns (g ∷ fs) e = by (is_letter letter g) (eqb (length fs) (length ns)) (clear (number_faults 2 ns fs)) e (fields_told 2 ns fs)
   where
-    by : (a b c e : Bool) {r : TenNumbers} → r ≡ good_when (b && c) (map worth fs) → cond e (cond a r ten-bad) ten-bad ≡ good_when (a && (b && (c && e))) (map worth fs)
+    by : (a b c e : Bool) {r : TenNumbers} → r ≡ good_when (b && c) (map worth fs) → cond e (cond a r ten_bad) ten_bad ≡ good_when (a && (b && (c && e))) (map worth fs)
     by true true true true h = h
     by true true false true h = h
     by true false c true h = h
@@ -136,11 +136,11 @@ module _ (d : ℕ) (ts : List Term) where
   abbrev uus : List Bool
   uus = unsigned ∷ unsigned ∷ signed ∷ []
 
-  abbrev both-clear : List (List ℕ) → Type 0
-  both-clear fs = (clear (number_faults 2 uus fs) && is_admitted d ts (term_of (map worth fs))) ≡ clear (between fs)
+  abbrev both_clear : List (List ℕ) → Type 0
+  both_clear fs = (clear (number_faults 2 uus fs) && is_admitted d ts (term_of (map worth fs))) ≡ clear (between fs)
 
-  three-clear : (f g h : List ℕ) → both-clear (f ∷ g ∷ h ∷ [])
-  three-clear f g h =
+  three_clear : (f g h : List ℕ) → both_clear (f ∷ g ∷ h ∷ [])
+  three_clear f g h =
       let t = term_of (map worth (f ∷ g ∷ h ∷ [])) in
       rw (admitted d ts t) (by (is_written f) (is_within unsigned (worth f)) (is_written g) (is_within unsigned (worth g)) (is_beyond d t.i t.j) (is_named t.i t.j ts) (is_written h) (is_within signed (worth h)))
     where
@@ -162,23 +162,23 @@ module _ (d : ℕ) (ts : List Term) where
       by true true true true false false true false = refl
       by true true true true false false false v = refl
 
-  three-fields : (fs : List (List ℕ)) → eqb (length fs) 3 ≡ true → both-clear fs
-  three-fields [] e = let z = eqb-true 0 3 e in absurd (omega arith)
-  three-fields (f ∷ []) e = let z = eqb-true 1 3 e in absurd (omega arith)
-  three-fields (f ∷ g ∷ []) e = let z = eqb-true 2 3 e in absurd (omega arith)
-  three-fields (f ∷ g ∷ h ∷ []) e = three-clear f g h
-  three-fields (f ∷ g ∷ h ∷ k ∷ fs) e = let z = eqb-true (length (f ∷ g ∷ h ∷ k ∷ fs)) 3 e in absurd (omega arith)
+  three_fields : (fs : List (List ℕ)) → eqb (length fs) 3 ≡ true → both_clear fs
+  three_fields [] e = let z = eqb-true 0 3 e in absurd (omega arith)
+  three_fields (f ∷ []) e = let z = eqb-true 1 3 e in absurd (omega arith)
+  three_fields (f ∷ g ∷ []) e = let z = eqb-true 2 3 e in absurd (omega arith)
+  three_fields (f ∷ g ∷ h ∷ []) e = three_clear f g h
+  three_fields (f ∷ g ∷ h ∷ k ∷ fs) e = let z = eqb-true (length (f ∷ g ∷ h ∷ k ∷ fs)) 3 e in absurd (omega arith)
 
-  when-good : (b : Bool) (zs : List ℤ) → when_admitted d ts (good_when b zs) ≡ good_when (b && is_admitted d ts (term_of zs)) zs
-  when-good true zs = refl
-  when-good false zs = refl
+  when_good : (b : Bool) (zs : List ℤ) → when_admitted d ts (good_when b zs) ≡ good_when (b && is_admitted d ts (term_of zs)) zs
+  when_good true zs = refl
+  when_good false zs = refl
 
   pub term_was_good : (gs : List (List ℕ)) (e : Bool) → let fs = drop 1 gs in
-      when_admitted d ts (cond e (ten_after_letter 84 uus gs) ten-bad) ≡ good_when (is_letter 84 (get_or gs 0 []) && (eqb (length fs) 3 && (clear (between fs) && e))) (map worth fs)
+      when_admitted d ts (cond e (ten_after_letter 84 uus gs) ten_bad) ≡ good_when (is_letter 84 (get_or gs 0 []) && (eqb (length fs) 3 && (clear (between fs) && e))) (map worth fs)
   term_was_good gs e =
       let fs = drop 1 gs in
-      ap (when_admitted d ts) (was_good 84 uus gs e) ∙ when-good (is_letter 84 (get_or gs 0 []) && (eqb (length fs) 3 && (clear (number_faults 2 uus fs) && e))) (map worth fs)
-      ∙ by (is_letter 84 (get_or gs 0 [])) (eqb (length fs) 3) (clear (number_faults 2 uus fs)) (is_admitted d ts (term_of (map worth fs))) e (three-fields fs)
+      ap (when_admitted d ts) (was_good 84 uus gs e) ∙ when_good (is_letter 84 (get_or gs 0 []) && (eqb (length fs) 3 && (clear (number_faults 2 uus fs) && e))) (map worth fs)
+      ∙ by (is_letter 84 (get_or gs 0 [])) (eqb (length fs) 3) (clear (number_faults 2 uus fs)) (is_admitted d ts (term_of (map worth fs))) e (three_fields fs)
     where
       by : (a b c x e : Bool) {r : Bool} → (b ≡ true → (c && x) ≡ r) → good_when ((a && (b && (c && e))) && x) (map worth (drop 1 gs)) ≡ good_when (a && (b && (r && e))) (map worth (drop 1 gs))
       by false b c x e h = refl
@@ -198,11 +198,11 @@ line_same n (faulty e) {f} h k = record { same = ap (λ t. ten_with_line n t f) 
 line_same n (good zs) {f} h k = record { same = ap (λ t. ten_with_line n t f) h ∙ (k zs).same }
 
 -- a term that was not admitted made its line bad
-admitted_later : (n d : ℕ) (ts : List Term) (t : TenNumbers) (f : List ℤ → TenText) → ten_with_line n t (λ zs. cond (is_admitted d ts (term_of zs)) (f zs) (ten-bad-line n)) ≡ ten_with_line n (when_admitted d ts t) f
-admitted_later n d ts ten-bad f = refl
-admitted_later n d ts (ten-good zs) f = by (is_admitted d ts (term_of zs))
+admitted_later : (n d : ℕ) (ts : List Term) (t : TenNumbers) (f : List ℤ → TenText) → ten_with_line n t (λ zs. cond (is_admitted d ts (term_of zs)) (f zs) (ten_bad_line n)) ≡ ten_with_line n (when_admitted d ts t) f
+admitted_later n d ts ten_bad f = refl
+admitted_later n d ts (ten_good zs) f = by (is_admitted d ts (term_of zs))
   where
-    by : (b : Bool) → cond b (f zs) (ten-bad-line n) ≡ ten_with_line n (cond b (ten-good zs) ten-bad) f
+    by : (b : Bool) → cond b (f zs) (ten_bad_line n) ≡ ten_with_line n (cond b (ten_good zs) ten_bad) f
     by true = refl
     by false = refl
 
@@ -228,7 +228,7 @@ pub same_text : SameText
 same_text ls = (four_same ls).same
 
 -- ---- what reading comes to: a fault's number is 14 at least, and no row's is
-short_text : (text : List ℕ) (w : Said) → ltb 8_192 (length text) ≡ false → text_of (lines text) ≡ well-formed w → outcome text ≡ unless (refusal (to_read w)) (λ n. refused n 0 0) (accepted w)
+short_text : (text : List ℕ) (w : Said) → ltb 8_192 (length text) ≡ false → text_of (lines text) ≡ well_formed w → outcome text ≡ unless (refusal (to_read w)) (λ n. refused n 0 0) (accepted w)
 unfolding outcome
 short_text text w h e = rw (h, e)
 
@@ -244,18 +244,18 @@ unfolding outcome ten_outcome
 same_outcome text = rw (same_text (lines text)) (by (ltb 8_192 (length text)) (text_of (lines text)) refl refl)
   where
     by : (long : Bool) (t : Text) → ltb 8_192 (length text) ≡ long → text_of (lines text) ≡ t
-        → cond long (ten-refused 11 0) (ten_outcome_of (text_as_ten t)) ≡ as_ten (cond long (refused 11 0 0) (outcome_of t))
+        → cond long (ten_refused 11 0) (ten_outcome_of (text_as_ten t)) ≡ as_ten (cond long (refused 11 0 0) (outcome_of t))
     by true t h e = refl
-    by false (bad-line n f) h e = ap (λ t. ten-refused (cond t 10 f.number) n) (sym (le-leb 14 f.number (fault_numbered (fault_placed (lines text) n f e)).0))
-    by false (well-formed w) h e = judged (refusal (to_read w)) (λ n k. below_14 text n (short_text text w h e ∙ k))
+    by false (bad_line n f) h e = ap (λ t. ten_refused (cond t 10 f.number) n) (sym (le-leb 14 f.number (fault_numbered (fault_placed (lines text) n f e)).0))
+    by false (well_formed w) h e = judged (refusal (to_read w)) (λ n k. below_14 text n (short_text text w h e ∙ k))
       where
         judged : (m : ℕ) → ((n : ℕ) → unless m (λ n. refused n 0 0) (accepted w) ≡ refused n 0 0 → leb 14 n ≡ false)
-            → unless m (λ n. ten-refused n 0) (ten-accepted w) ≡ as_ten (unless m (λ n. refused n 0 0) (accepted w))
+            → unless m (λ n. ten_refused n 0) (ten_accepted w) ≡ as_ten (unless m (λ n. refused n 0 0) (accepted w))
         judged zero k = refl
         judged (suc m) k = rw (k (suc m) refl)
 
 -- ---- `read`: the sheet of a text that was accepted, and the refusal of one that was not
-sheet_by : (o : Outcome) (w : Said) → ten-accepted w ≡ as_ten o → o ≡ accepted w
+sheet_by : (o : Outcome) (w : Said) → ten_accepted w ≡ as_ten o → o ≡ accepted w
 sheet_by (refused n line field) w e = let z : ◌≡◌ {A = ℕ} 0 1 = cc in absurd (omega arith)
 sheet_by (accepted v) w e = let z : v ≡ w = cc in ap accepted z
 
@@ -267,11 +267,11 @@ pub accepted_before : AcceptedBefore
 unfolding reading
 accepted_before text r h z = by (outcome text) refl (sym (ap (λ r. r.refusal) h) ∙ z)
   where
-    by : (o : Outcome) → outcome text ≡ o → (reading_of o).refusal ≡ 0 → (w : Said) × (ten_outcome text ≡ ten-accepted w) × (r ≡ reading_of (accepted w))
+    by : (o : Outcome) → outcome text ≡ o → (reading_of o).refusal ≡ 0 → (w : Said) × (ten_outcome text ≡ ten_accepted w) × (r ≡ reading_of (accepted w))
     by (refused n line field) e z = absurd ((read_never text n line field e).not_0 z)
     by (accepted w) e z = (w, same_outcome text ∙ ap as_ten e, h ∙ ap reading_of e)
 
-refused_by : (text : List ℕ) (o : Outcome) (n line : ℕ) → outcome text ≡ o → ten-refused n line ≡ as_ten o → RefusedSame n line (reading_of o)
+refused_by : (text : List ℕ) (o : Outcome) (n line : ℕ) → outcome text ≡ o → ten_refused n line ≡ as_ten o → RefusedSame n line (reading_of o)
 refused_by text (accepted v) n line h e = let z : ◌≡◌ {A = ℕ} 0 1 = cc in absurd (omega arith)
 refused_by text (refused m at field) n line h e = by (leb 14 m) refl (let z : n ≡ cond (leb 14 m) 10 m = cc in z) (let z : at ≡ line = cc in z)
   where

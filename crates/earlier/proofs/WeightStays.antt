@@ -16,7 +16,7 @@ use Rattle.page.specs.Sheet.{Sheet}
 use Rattle.page.specs.Weight.{weight, spare}
 use Rattle.page.specs.Refusals.{Input, Row, ◌when◌, table, first, refusal, unless, to_check, at_point, in_cell, to_walk}
 use Rattle.page.specs.SheetLine.{lines}
-use Rattle.page.specs.SheetText.{Text, bad-line, well-formed, text_of, to_read, refused, outcome_of, outcome}
+use Rattle.page.specs.SheetText.{Text, bad_line, well_formed, text_of, to_read, refused, outcome_of, outcome}
 use Rattle.page.specs.ListingText.{text_after, written_text}
 use Rattle.page.specs.ReadFacts.{number_of}
 use Rattle.page.proofs.Page.{polynomial}
@@ -106,8 +106,8 @@ listing_stays S mode before r now h n = (h.0 ∙ unless_stays (to_walk S mode _)
 -- ---- texts
 outcome_of_stays : (long : Bool) (t : Text) → (number_of (cond long (refused 11 0 0) (old_outcome_of t)) ≡ 6 → ⊥) → cond long (refused 11 0 0) (outcome_of t) ≡ cond long (refused 11 0 0) (old_outcome_of t)
 outcome_of_stays true t n = refl
-outcome_of_stays false (bad-line m f) n = refl
-outcome_of_stays false (well-formed w) n = unless_stays (to_read w) (λ e. n (unless_number number_of (old_refusal (to_read w)) (λ m. refl) refl refl ∙ e)) _ _
+outcome_of_stays false (bad_line m f) n = refl
+outcome_of_stays false (well_formed w) n = unless_stays (to_read w) (λ e. n (unless_number number_of (old_refusal (to_read w)) (λ m. refl) refl refl ∙ e)) _ _
 
 outcome_stays : (text : List ℕ) → (number_of (old_outcome text) ≡ 6 → ⊥) → outcome text ≡ old_outcome text
 unfolding outcome

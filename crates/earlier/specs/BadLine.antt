@@ -6,45 +6,45 @@ use Rattle.page.specs.SheetText.{Term, term_of, is_named, Said, with_terms, to_r
 
 -- ---- the numbers of a line, or that it is bad
 pub data TenNumbers : Type 0 where
-  ten-bad : TenNumbers
-  ten-good : List ℤ → TenNumbers
+  ten_bad : TenNumbers
+  ten_good : List ℤ → TenNumbers
 
 abbrev pub with_first : ℤ → TenNumbers → TenNumbers
-with_first z ten-bad = ten-bad
-with_first z (ten-good zs) = ten-good (z ∷ zs)
+with_first z ten_bad = ten_bad
+with_first z (ten_good zs) = ten_good (z ∷ zs)
 
 -- a number for each field, and a field for each number
 abbrev pub ten_numbers : List Bool → List (List ℕ) → TenNumbers
-ten_numbers [] [] = ten-good []
-ten_numbers [] (f ∷ fs) = ten-bad
-ten_numbers (n ∷ ns) [] = ten-bad
-ten_numbers (n ∷ ns) (f ∷ fs) = cond (is_written f && is_within n (worth f)) (with_first (worth f) (ten_numbers ns fs)) ten-bad
+ten_numbers [] [] = ten_good []
+ten_numbers [] (f ∷ fs) = ten_bad
+ten_numbers (n ∷ ns) [] = ten_bad
+ten_numbers (n ∷ ns) (f ∷ fs) = cond (is_written f && is_within n (worth f)) (with_first (worth f) (ten_numbers ns fs)) ten_bad
 
 -- field 1 is the line's letter
 abbrev pub ten_after_letter : ℕ → List Bool → List (List ℕ) → TenNumbers
-ten_after_letter letter ns [] = ten-bad
-ten_after_letter letter ns (f ∷ fs) = cond (is_letter letter f) (ten_numbers ns fs) ten-bad
+ten_after_letter letter ns [] = ten_bad
+ten_after_letter letter ns (f ∷ fs) = cond (is_letter letter f) (ten_numbers ns fs) ten_bad
 
 -- an unended line is bad
 abbrev pub ten_line_numbers : ℕ → List Bool → Line → TenNumbers
-ten_line_numbers letter ns l = cond l.ended (ten_after_letter letter ns (fields l.bytes)) ten-bad
+ten_line_numbers letter ns l = cond l.ended (ten_after_letter letter ns (fields l.bytes)) ten_bad
 
 -- ---- no (i,j) twice, i + j ≤ the declared d, i and j at most 8
 abbrev pub is_admitted : ℕ → List Term → Term → Bool
 is_admitted d ts t = leb (t.i + t.j) d && leb t.i 8 && leb t.j 8 && not (is_named t.i t.j ts)
 
--- ---- a text was bad at a line, counted from 1, or it was well-formed
+-- ---- a text was bad at a line, counted from 1, or it was well_formed
 pub data TenText : Type 0 where
-  ten-bad-line : ℕ → TenText
-  ten-well-formed : Said → TenText
+  ten_bad_line : ℕ → TenText
+  ten_well_formed : Said → TenText
 
 abbrev pub ten_with_line : ℕ → TenNumbers → (List ℤ → TenText) → TenText
-ten_with_line n ten-bad rest = ten-bad-line n
-ten_with_line n (ten-good zs) rest = rest zs
+ten_with_line n ten_bad rest = ten_bad_line n
+ten_with_line n (ten_good zs) rest = rest zs
 
 -- where a line was missing, the text was bad there
 abbrev pub ten_line_then : ℕ → ℕ → List Bool → List Line → (List ℤ → List Line → TenText) → TenText
-ten_line_then n letter ns [] rest = ten-bad-line n
+ten_line_then n letter ns [] rest = ten_bad_line n
 ten_line_then n letter ns (l ∷ ls) rest = ten_with_line n (ten_line_numbers letter ns l) (λ zs. rest zs ls)
 
 -- `T` i j coefficient
@@ -52,9 +52,9 @@ abbrev pub ten_term_numbers : Line → TenNumbers
 ten_term_numbers l = ten_line_numbers 84 (unsigned ∷ unsigned ∷ signed ∷ []) l
 
 unfoldable pub ten_terms_from : ℕ → Said → List Line → TenText
-ten_terms_from n w [] = ten-well-formed w
+ten_terms_from n w [] = ten_well_formed w
 ten_terms_from n w (l ∷ ls) = ten_with_line n (ten_term_numbers l) (λ zs.
-    cond (is_admitted w.d w.terms (term_of zs)) (ten_terms_from (n + 1) (with_terms w (term_of zs ∷ w.terms)) ls) (ten-bad-line n))
+    cond (is_admitted w.d w.terms (term_of zs)) (ten_terms_from (n + 1) (with_terms w (term_of zs ∷ w.terms)) ls) (ten_bad_line n))
 
 unfoldable pub ten_text_of : List Line → TenText
 ten_text_of ls =
@@ -66,12 +66,12 @@ ten_text_of ls =
 
 -- ---- what reading a text came to: a refusal with its number and its line, 0 where no line was meant; 11 and 10 before the rest
 pub data TenOutcome : Type 0 where
-  ten-refused : ℕ → ℕ → TenOutcome
-  ten-accepted : Said → TenOutcome
+  ten_refused : ℕ → ℕ → TenOutcome
+  ten_accepted : Said → TenOutcome
 
 abbrev pub ten_outcome_of : TenText → TenOutcome
-ten_outcome_of (ten-bad-line n) = ten-refused 10 n
-ten_outcome_of (ten-well-formed w) = unless (refusal (to_read w)) (λ n. ten-refused n 0) (ten-accepted w)
+ten_outcome_of (ten_bad_line n) = ten_refused 10 n
+ten_outcome_of (ten_well_formed w) = unless (refusal (to_read w)) (λ n. ten_refused n 0) (ten_accepted w)
 
 unfoldable pub ten_outcome : List ℕ → TenOutcome
-ten_outcome text = cond (ltb 8_192 (length text)) (ten-refused 11 0) (ten_outcome_of (ten_text_of (lines text)))
+ten_outcome text = cond (ltb 8_192 (length text)) (ten_refused 11 0) (ten_outcome_of (ten_text_of (lines text)))

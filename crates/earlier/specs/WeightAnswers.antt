@@ -6,7 +6,7 @@ use Rattle.page.specs.Scaled.{F}
 use Rattle.page.specs.Bounds.{verdict}
 use Rattle.page.specs.Refusals.{to_check, at_point, in_cell, to_walk, unless}
 use Rattle.page.specs.SheetLine.{lines}
-use Rattle.page.specs.SheetText.{Text, bad-line, well-formed, text_of, to_read, Outcome, refused, accepted}
+use Rattle.page.specs.SheetText.{Text, bad_line, well_formed, text_of, to_read, Outcome, refused, accepted}
 use Rattle.page.specs.ListingText.{text_after}
 use Rattle.probe.specs.declared.Checked.{Checked}
 use Rattle.probe.specs.declared.Checked.TheVariants as Checked
@@ -49,8 +49,8 @@ old_recorded S mode before = unless (old_refusal (to_walk S mode (length before)
 
 -- ---- reading a text
 abbrev pub old_outcome_of : Text → Outcome
-old_outcome_of (bad-line n f) = refused f.number n f.field
-old_outcome_of (well-formed w) = unless (old_refusal (to_read w)) (λ n. refused n 0 0) (accepted w)
+old_outcome_of (bad_line n f) = refused f.number n f.field
+old_outcome_of (well_formed w) = unless (old_refusal (to_read w)) (λ n. refused n 0 0) (accepted w)
 
 abbrev pub old_outcome : List ℕ → Outcome
 old_outcome text = cond (ltb 8_192 (length text)) (refused 11 0 0) (old_outcome_of (text_of (lines text)))

@@ -70,22 +70,22 @@ abbrev pub opposite : Polynomial → Polynomial
 opposite F = record { variables = F.variables; degree = F.degree; scale = F.scale; coefficient = λ e. neg_ℤ (F.coefficient e) }
 
 module _ (F : Polynomial) where
-  scaled-opposite : (e : List ℕ) → scaled (opposite F) e ≡ neg_ℤ (scaled F e)
+  scaled_opposite : (e : List ℕ) → scaled (opposite F) e ≡ neg_ℤ (scaled F e)
   unfolding scaled
-  scaled-opposite e = simp neg_ℤ_*ℤ
+  scaled_opposite e = simp neg_ℤ_*ℤ
 
   pub value_opposite : (x : Point) (Q : ℕ) → value (opposite F) x Q ≡ neg_ℤ (value F x Q)
   unfolding value
-  value_opposite x Q = simp (value, value_term, scaled-opposite, neg_ℤ_*ℤ, neg_ℤ_sum)
+  value_opposite x Q = simp (value, value_term, scaled_opposite, neg_ℤ_*ℤ, neg_ℤ_sum)
 
-  local-opposite : (u : Point) (H : ℕ) (a : List ℕ) → local (opposite F) u H a ≡ neg_ℤ (local F u H a)
+  local_opposite : (u : Point) (H : ℕ) (a : List ℕ) → local (opposite F) u H a ≡ neg_ℤ (local F u H a)
   unfolding local
-  local-opposite u H a = simp (local, local_term, scaled-opposite, neg_ℤ_*ℤ, neg_ℤ_sum)
+  local_opposite u H a = simp (local, local_term, scaled_opposite, neg_ℤ_*ℤ, neg_ℤ_sum)
 
   pub upper_lower : (mode : Mode) (u : Point) (H : ℕ) → upper F mode u H ≡ neg_ℤ (lower (opposite F) mode u H)
   unfolding upper lower
-  upper_lower mode u H = simp (upper, lower, high_low, local-opposite, neg_ℤ_sum)
+  upper_lower mode u H = simp (upper, lower, high_low, local_opposite, neg_ℤ_sum)
 
   pub bend_opposite : (u : Point) (H : ℕ) → bend (opposite F) u H ≡ bend F u H
   unfolding bend bent
-  bend_opposite u H = simp (bend, bent, local-opposite, nat_abs_neg_ℤ)
+  bend_opposite u H = simp (bend, bent, local_opposite, nat_abs_neg_ℤ)

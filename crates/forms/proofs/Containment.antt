@@ -11,7 +11,7 @@ use lib.Pow.{pow-add}
 use lib.Signed.{◌≤ℤ◌, ◌<ℤ◌, <ℤ-≤ℤ_trans}
 use Rattle.algebra.proofs.Integer.{*ℤ_assoc, *ℤ_idl}
 use Rattle.algebra.proofs.Power.{*_pow, pos_pow}
-use Rattle.algebra.proofs.Order.{≤ℤ_by, ≤ℤ_trans, ≤ℤ_of_≡, ≤ℤ_sub, ≤ℤ-total, ≤ℤ-<ℤ_trans, neg_ℤ_mono, pos_mono, pos_mono_<, nonneg, *ℤ_mono, *ℤ_mono_<, *ℤ_nonneg, pow_nonneg, pow_positive}
+use Rattle.algebra.proofs.Order.{≤ℤ_by, ≤ℤ_trans, ≤ℤ_of_≡, ≤ℤ_sub, ≤ℤ-total, ≤ℤ_<ℤ_trans, neg_ℤ_mono, pos_mono, pos_mono_<, nonneg, *ℤ_mono, *ℤ_mono_<, *ℤ_nonneg, pow_nonneg, pow_positive}
 use Rattle.algebra.proofs.Absolute.{nat_abs-*ℤ, nat_abs_pow, ≤ℤ-nat_abs, -nat_abs-≤ℤ}
 use Rattle.algebra.proofs.MinMax.{minℤ-≤ℤ}
 use Rattle.algebra.proofs.Ring.{ring, ◌⊕◌, ◌⊖◌, ◌⊗◌, ⊝◌, #◌, ◌≐◌}
@@ -48,18 +48,18 @@ module _ (F : Polynomial) (u : Point) (H : ℕ) (x : Point) (Q : ℕ) (h : InBox
   offset v = x v -ℤ pos Q *ℤ u v
 
   -- |offset^a| ≤ (Q H)^|a|
-  offset-size : {a : List ℕ} → Memᴰ a (indices F) → nat_abs (powers offset a) ≤ (Q * H) ^ total a
+  offset_size : {a : List ℕ} → Memᴰ a (indices F) → nat_abs (powers offset a) ≤ (Q * H) ^ total a
   unfolding offset
-  offset-size {a} m = powers_size a offset (Q * H) (rw (vectors_fit F.variables F.degree m).0 (λ v i. let b = h v i in omega arith))
+  offset_size {a} m = powers_size a offset (Q * H) (rw (vectors_fit F.variables F.degree m).0 (λ v i. let b = h v i in omega arith))
 
-  low-term : (mode : Mode) {a : List ℕ} → Memᴰ a (indices F) →
+  low_term : (mode : Mode) {a : List ℕ} → Memᴰ a (indices F) →
       (pow (pos Q) F.degree *ℤ low mode a (local F u H a)) ≤ℤ (taylor F u a *ℤ powers offset a *ℤ pow (pos Q) (F.degree - total a))
-  low-term mode {a} m =
+  low_term mode {a} m =
       let d = F.degree in let k = total a in let s = (vectors_fit F.variables d m).1 in
       rw (local_taylor, *ℤ_assoc (taylor F u a), pos_pow Q d, pos_pow H) (low-≤ℤ mode a (taylor F u a) (powers offset a *ℤ pow (pos Q) (d - k)) (Q ^ d) (H ^ k)
       (λ z. rw (powers_zero a offset z, z, Nat.sub-zero, Nat.pow-zero, Nat.mul-one, *ℤ_idl) (pos_pow Q d))
       (λ t. *ℤ_nonneg (powers_even a offset t) (pow_nonneg (nonneg Q) (d - k)))
-      (rw (nat_abs-*ℤ, nat_abs_pow) (Nat.le_trans (Nat.mul-le-mul_right (Q ^ (d - k)) (offset-size m))
+      (rw (nat_abs-*ℤ, nat_abs_pow) (Nat.le_trans (Nat.mul-le-mul_right (Q ^ (d - k)) (offset_size m))
       (Nat.le_of_eq (rw (*_pow, Nat.mul_right_comm (Q ^ k) (H ^ k), ← (pow-add Q k (d - k))) (ap (λ (x : ℕ). Q ^ x * H ^ k) (omega arith)))))))
 
   -- Q^d lower ≤ F(x,Q)
@@ -67,7 +67,7 @@ module _ (F : Polynomial) (u : Point) (H : ℕ) (x : Point) (Q : ℕ) (h : InBox
   unfolding lower offset
   lower_below_value mode =
       let e : x ≡ (λ v. pos Q *ℤ u v +ℤ offset v) = fun_ext (λ v. ring (x v ∷ pos Q ∷ u v ∷ []) (λ x q u. x ≐ q ⊗ u ⊕ (x ⊖ q ⊗ u)) tt) in
-      ≤ℤ_trans (rw *ℤ-sum (sum_mono (indices F) (λ a m. low-term mode m))) (≤ℤ_of_≡ (sym (ap (λ y. value F y Q) e ∙ taylor_formula F u offset Q)))
+      ≤ℤ_trans (rw *ℤ-sum (sum_mono (indices F) (λ a m. low_term mode m))) (≤ℤ_of_≡ (sym (ap (λ y. value F y Q) e ∙ taylor_formula F u offset Q)))
 
 module _ (F : Polynomial) (u : Point) (H : ℕ) (x : Point) (Q : ℕ) (h : InBox F u H x Q) (mode : Mode) where
   -- F(x,Q) ≤ Q^d upper
@@ -80,4 +80,4 @@ module _ (F : Polynomial) (u : Point) (H : ℕ) (x : Point) (Q : ℕ) (h : InBox
   value_positive q l = <ℤ-≤ℤ_trans (rw *ℤ-zero at (*ℤ_mono_< (pow_positive (pos_mono_< q) F.degree) l)) (lower_below_value F u H x Q h mode)
 
   pub value_negative : 1 ≤ Q → upper F mode u H <ℤ pos 0 → value F x Q <ℤ pos 0
-  value_negative q l = ≤ℤ-<ℤ_trans value_below_upper (rw *ℤ-zero at (*ℤ_mono_< (pow_positive (pos_mono_< q) F.degree) l))
+  value_negative q l = ≤ℤ_<ℤ_trans value_below_upper (rw *ℤ-zero at (*ℤ_mono_< (pow_positive (pos_mono_< q) F.degree) l))

@@ -12,7 +12,7 @@ use Rattle.algebra.proofs.Power.{pow_+, one_pow}
 use Rattle.algebra.proofs.Absolute.{nat_abs-*ℤ}
 use Rattle.algebra.proofs.Ring.{ring, ◌⊗◌, #◌, ◌≐◌}
 use Rattle.algebra.proofs.Sum.{sum_cong, sum_zero, sum-*ℤ, sumℕ_cong, sumℕ_mono, sumℕ_member, *-sumℕ, nat_abs_sum_le}
-use Rattle.algebra.proofs.Run.{⋯_member, member_⋯, sum-⋯_from, sum-⋯_upto, sumℕ_span_part}
+use Rattle.algebra.proofs.Run.{⋯_member, member_⋯, sum_⋯_from, sum_⋯_upto, sumℕ_span_part}
 use Rattle.algebra.proofs.Binomial.{entry_over, entry_size}
 use Rattle.algebra.proofs.Horner.{still}
 use Rattle.forms.specs.Vectors.{total}
@@ -25,28 +25,28 @@ use Rattle.forms.proofs.Size.{weight_majorants}
 
 -- ---- the powers of the moved variable below b give nothing to b
 module _ (d : ℕ) (f : ℕ → ℕ → ℤ) (v : ℤ) where
-  along-from : (i b : ℕ) → along d f v i b ≡ sum (b ⋯ (d - i)) (λ j. f i j *ℤ entry v (pos 1) j b)
+  along_from : (i b : ℕ) → along d f v i b ≡ sum (b ⋯ (d - i)) (λ j. f i j *ℤ entry v (pos 1) j b)
   unfolding along
-  along-from i b = sum-⋯_from b (d - i) _ (λ j l. ap (λ x. f i j *ℤ x) (entry_over v (pos 1) j b l) ∙ *ℤ-zero (f i j))
+  along_from i b = sum_⋯_from b (d - i) _ (λ j l. ap (λ x. f i j *ℤ x) (entry_over v (pos 1) j b l) ∙ *ℤ-zero (f i j))
 
-  along-over : (i b : ℕ) → d - i < b → along d f v i b ≡ pos 0
+  along_over : (i b : ℕ) → d - i < b → along d f v i b ≡ pos 0
   unfolding along
-  along-over i b l = sum_cong (0 ⋯ (d - i)) (λ j m. let p = ⋯_member 0 (d - i) m in ap (λ x. f i j *ℤ x) (entry_over v (pos 1) j b (omega arith)) ∙ *ℤ-zero (f i j)) ∙ sum_zero (0 ⋯ (d - i))
+  along_over i b l = sum_cong (0 ⋯ (d - i)) (λ j m. let p = ⋯_member 0 (d - i) m in ap (λ x. f i j *ℤ x) (entry_over v (pos 1) j b (omega arith)) ∙ *ℤ-zero (f i j)) ∙ sum_zero (0 ⋯ (d - i))
 
   -- both variables moved, in the order of the table
-  both-moved : (u : ℤ) (a b : ℕ) → across d (along d f v) u a b ≡ sum (a ⋯ d) (λ i. sum (b ⋯ (d - i)) (λ j. f i j *ℤ entry v (pos 1) j b) *ℤ entry u (pos 1) i a)
+  both_moved : (u : ℤ) (a b : ℕ) → across d (along d f v) u a b ≡ sum (a ⋯ d) (λ i. sum (b ⋯ (d - i)) (λ j. f i j *ℤ entry v (pos 1) j b) *ℤ entry u (pos 1) i a)
   unfolding across
-  both-moved u a b =
+  both_moved u a b =
       let t : ℕ → ℤ = λ i. along d f v i b *ℤ entry u (pos 1) i a in
-      let all : sum (0 ⋯ (d - b)) t ≡ sum (0 ⋯ d) t = sum-⋯_upto (d - b) d t (omega arith) (λ i l k. ap (λ x. x *ℤ entry u (pos 1) i a) (along-over i b (omega arith)) ∙ zero-*ℤ (entry u (pos 1) i a)) in
-      all ∙ sum-⋯_from a d t (λ i l. ap (λ x. along d f v i b *ℤ x) (entry_over u (pos 1) i a l) ∙ *ℤ-zero (along d f v i b))
-      ∙ sum_cong (a ⋯ d) (λ i m. ap (λ x. x *ℤ entry u (pos 1) i a) (along-from i b))
+      let all : sum (0 ⋯ (d - b)) t ≡ sum (0 ⋯ d) t = sum_⋯_upto (d - b) d t (omega arith) (λ i l k. ap (λ x. x *ℤ entry u (pos 1) i a) (along_over i b (omega arith)) ∙ zero-*ℤ (entry u (pos 1) i a)) in
+      all ∙ sum_⋯_from a d t (λ i l. ap (λ x. along d f v i b *ℤ x) (entry_over u (pos 1) i a l) ∙ *ℤ-zero (along d f v i b))
+      ∙ sum_cong (a ⋯ d) (λ i m. ap (λ x. x *ℤ entry u (pos 1) i a) (along_from i b))
 
 -- ---- the local form of a table: the second variable moved, then the first, and then each place times its power of the half_side
 module _ (d : ℕ) (f : ℕ → ℕ → ℤ) (u v : ℤ) where
   pub moved_both : (a b : ℕ) → across d (along d f v) u a b ≡ moved d f u v (pos 1) a b
   unfolding entry moved
-  moved_both a b = both-moved d f v u a b ∙ sum_cong (a ⋯ d) (λ i m. rw sum-*ℤ (sum_cong (b ⋯ (d - i)) (λ j l. rw (pow_+ (pos 1) a b)
+  moved_both a b = both_moved d f v u a b ∙ sum_cong (a ⋯ d) (λ i m. rw sum-*ℤ (sum_cong (b ⋯ (d - i)) (λ j l. rw (pow_+ (pos 1) a b)
       (ring (f i j ∷ pos (choose i a) ∷ pos (choose j b) ∷ pow u (i - a) ∷ pow v (j - b) ∷ pow (pos 1) a ∷ pow (pos 1) b ∷ []) (λ c x y u v g k. c ⊗ (y ⊗ v ⊗ k) ⊗ (x ⊗ u ⊗ g) ≐ c ⊗ x ⊗ y ⊗ u ⊗ v ⊗ (g ⊗ k)) tt))))
 
   pub moved_scaled : (h : ℤ) (a b : ℕ) → moved d f u v h a b ≡ moved d f u v (pos 1) a b *ℤ pow h (a + b)
@@ -83,15 +83,15 @@ moved_still d f a b l = sym (moved_both d f (pos 0) (pos 0) a b) ∙ across_agre
 
 module _ (d S : ℕ) (A : ℕ → ℕ → ℤ) (R : ℕ → ℕ) where
   -- |A(i,j)| S^(d-i-j) (S Rx)^i (S Ry)^j, of which the weight is the sum
-  majorant-plane : (i j : ℕ) → majorant (plane d S A) R (i ∷ j ∷ []) ≡ nat_abs (A i j *ℤ pow (pos S) (d - i - j)) * ((S * R 0) ^ i * (S * R 1) ^ j)
+  majorant_plane : (i j : ℕ) → majorant (plane d S A) R (i ∷ j ∷ []) ≡ nat_abs (A i j *ℤ pow (pos S) (d - i - j)) * ((S * R 0) ^ i * (S * R 1) ^ j)
   unfolding majorant scaled total powersℕ
-  majorant-plane i j = rw (Nat.add-zero, Nat.sub-add-eq, Nat.mul-one)
+  majorant_plane i j = rw (Nat.add-zero, Nat.sub-add-eq, Nat.mul-one)
 
 module _ (d k : ℕ) (A : ℕ → ℕ → ℤ) where
   -- ---- the weight, as the sum over the scaled coefficients
   pub scaled_weight : (R : ℕ → ℕ) → triangle d (λ i j. nat_abs (A i j *ℤ pos (2 ^ ((k + 1) * (d - i - j)))) * ((2 ^ (k + 1) * R 0) ^ i * (2 ^ (k + 1) * R 1) ^ j)) ≡ weight (plane d (2 ^ (k + 1)) A) R
   scaled_weight R = let S = 2 ^ (k + 1) in sym (weight_majorants (plane d S A) R ∙ sumℕ_plane d (majorant (plane d S A) R)
-      ∙ sumℕ_cong (0 ⋯ d) (λ i m. sumℕ_cong (0 ⋯ (d - i)) (λ j l. majorant-plane d S A R i j
+      ∙ sumℕ_cong (0 ⋯ d) (λ i m. sumℕ_cong (0 ⋯ (d - i)) (λ j l. majorant_plane d S A R i j
       ∙ ap (λ x. nat_abs (A i j *ℤ x) * ((S * R 0) ^ i * (S * R 1) ^ j)) (scale_page k (d - i - j)))))
 
 -- ---- sizes: with m and n for the two variables, what is moved first and what is moved then is at most the sum of |f(i,j)| m^i n^j over the triangle

@@ -98,10 +98,10 @@ module _ (F : Polynomial) (u : Point) (H : ℕ) (straight : bend F u H ≡ 0) wh
   upper_is mode = sum_cong (indices F) (λ a m. high_parts mode a (local F u H a) (unbent m)) ∙ simp (sum-+, pos_sumℕ)
 
   -- the value at Q u + H K σ, times Q
-  line-value : (K : ℤ) (Q : ℕ) → let σ = turning F.variables (local F u H) in
+  line_value : (K : ℤ) (Q : ℕ) → let σ = turning F.variables (local F u H) in
       value F (λ v. pos Q *ℤ u v +ℤ pos H *ℤ (K *ℤ σ v)) Q *ℤ pos Q ≡ (constant *ℤ pos Q -ℤ pos linear *ℤ K) *ℤ pow (pos Q) F.degree
   unfolding constant linear
-  line-value K Q =
+  line_value K Q =
       let n = F.variables in let d = F.degree in let I = indices F in let G = local F u H in let σ = turning n G in
       rw (local_formula F u H (λ v. K *ℤ σ v) Q, sum-*ℤ) (sum_cong I (λ a m. let (l, s) = vectors_fit n d m in
       ap (λ y. G a *ℤ y *ℤ pow (pos Q) (d - total a) *ℤ pos Q) (powers-*ℤ a K σ)
@@ -112,8 +112,8 @@ module _ (F : Polynomial) (u : Point) (H : ℕ) (straight : bend F u H ≡ 0) wh
   sum_is : (mode : Mode) → lower F mode u H +ℤ upper F mode u H ≡ pos 2 *ℤ constant
   sum_is mode = rw (lower_is mode, upper_is mode) (ring (constant ∷ pos linear ∷ []) (λ c l. c ⊖ l ⊕ (c ⊕ l) ≐ # 2 ⊗ c) tt)
 
-  difference-is : (mode : Mode) → upper F mode u H -ℤ lower F mode u H ≡ pos (2 * linear)
-  difference-is mode = rw (lower_is mode, upper_is mode) (ring (constant ∷ pos linear ∷ []) (λ c l. c ⊕ l ⊖ (c ⊖ l) ≐ # 2 ⊗ l) tt)
+  difference_is : (mode : Mode) → upper F mode u H -ℤ lower F mode u H ≡ pos (2 * linear)
+  difference_is mode = rw (lower_is mode, upper_is mode) (ring (constant ∷ pos linear ∷ []) (λ c l. c ⊕ l ⊖ (c ⊖ l) ≐ # 2 ⊗ l) tt)
 
   -- |constant| ≤ linear
   enclosed : (mode : Mode) → lower F mode u H ≤ℤ pos 0 → pos 0 ≤ℤ upper F mode u H → nat_abs constant ≤ linear
@@ -133,34 +133,34 @@ module _ (F : Polynomial) (u : Point) (H : ℕ) (straight : bend F u H ≡ 0) (m
   unfolding C L
   small = enclosed F u H straight mode lo up
 
-  denominator-is : zero_denominator F mode u H ≡ max 1 (2 * L)
+  denominator_is : zero_denominator F mode u H ≡ max 1 (2 * L)
   unfolding zero_denominator L
-  denominator-is = rw (difference-is F u H straight mode)
+  denominator_is = rw (difference_is F u H straight mode)
 
   pub zero_in_box : InBox F u H (zero_point F mode u H) (zero_denominator F mode u H)
   unfolding zero_point C
   zero_in_box v i =
       let Q = zero_denominator F mode u H in let K = lower F mode u H +ℤ upper F mode u H in let σ = turning F.variables (local F u H) v in
-      let k : nat_abs K ≤ Q = rw (sum_is F u H straight mode, denominator-is, nat_abs-*ℤ (pos 2) C) (let s = small in omega arith) in
+      let k : nat_abs K ≤ Q = rw (sum_is F u H straight mode, denominator_is, nat_abs-*ℤ (pos 2) C) (let s = small in omega arith) in
       rw (ring ((pos Q *ℤ u v) ∷ (pos H *ℤ (K *ℤ σ)) ∷ []) (λ x y. x ⊕ y ⊖ x ≐ y) tt, nat_abs-*ℤ (pos H) (K *ℤ σ), nat_abs-*ℤ K σ, nat_abs_against _, Nat.mul-one, Nat.mul_comm H) (Nat.mul-le-mul_right H k)
 
   -- constant Q = linear (lower + upper)
   balanced : C *ℤ pos (zero_denominator F mode u H) -ℤ pos L *ℤ (lower F mode u H +ℤ upper F mode u H) ≡ pos 0
   unfolding C
-  balanced = rw (denominator-is, sum_is F u H straight mode) (go L refl)
+  balanced = rw (denominator_is, sum_is F u H straight mode) (go L refl)
     where
       go : (l : ℕ) → L ≡ l → C *ℤ pos (max 1 (2 * L)) -ℤ pos L *ℤ (pos 2 *ℤ C) ≡ pos 0
       go zero e = let s = small in rw (nat_abs_zero C (omega arith)) (ring (pos (max 1 (2 * L)) ∷ pos L ∷ []) (λ q l. # 0 ⊗ q ⊖ l ⊗ (# 2 ⊗ # 0) ≐ # 0) tt)
       go (suc l) e = let q : max 1 (2 * L) ≡ 2 * L = omega arith in rw q (ring (C ∷ pos L ∷ []) (λ c l. c ⊗ (# 2 ⊗ l) ⊖ l ⊗ (# 2 ⊗ c) ≐ # 0) tt)
 
   pub zero_positive : 1 ≤ zero_denominator F mode u H
-  zero_positive = rw denominator-is (omega arith)
+  zero_positive = rw denominator_is (omega arith)
 
   pub zero_vanishes : value F (zero_point F mode u H) (zero_denominator F mode u H) ≡ pos 0
   unfolding zero_point C L
   zero_vanishes =
       let Q = zero_denominator F mode u H in let K = lower F mode u H +ℤ upper F mode u H in let x = zero_point F mode u H in
-      let z : pos Q *ℤ value F x Q ≡ pos Q *ℤ pos 0 = *ℤ_comm (pos Q) (value F x Q) ∙ line-value F u H straight K Q ∙ rw balanced (zero-*ℤ (pow (pos Q) F.degree) ∙ sym (*ℤ-zero (pos Q))) in
+      let z : pos Q *ℤ value F x Q ≡ pos Q *ℤ pos 0 = *ℤ_comm (pos Q) (value F x Q) ∙ line_value F u H straight K Q ∙ rw balanced (zero-*ℤ (pow (pos Q) F.degree) ∙ sym (*ℤ-zero (pos Q))) in
       *ℤ_cancel_l (pos_mono_< zero_positive) z
 
   pub meets : Meets F u H

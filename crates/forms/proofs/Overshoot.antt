@@ -42,17 +42,17 @@ module _ (F : Polynomial) (u : Point) (H : ℕ) where
   least : Point
   least = turning F.variables (local F u H)
 
-  least-signs : Signs F least
+  least_signs : Signs F least
   unfolding least
-  least-signs v i = nat_abs_against _
+  least_signs v i = nat_abs_against _
 
-  low-corner : (mode : Mode) → (value F (corner u H least) 1 -ℤ pos (2 * bend F u H)) ≤ℤ lower F mode u H
+  low_corner : (mode : Mode) → (value F (corner u H least) 1 -ℤ pos (2 * bend F u H)) ≤ℤ lower F mode u H
   unfolding least lower bend
-  low-corner mode =
+  low_corner mode =
       let I = indices F in let G = local F u H in let b : List ℕ → ℤ = λ a. pos (bent a (G a)) in
       let k : sum I (λ a. G a *ℤ powers least a) ≤ℤ sum I (λ a. low mode a (G a) +ℤ pos 2 *ℤ b a) =
       sum_mono I (λ a m. let (l, s) = vectors_fit F.variables F.degree m in
-      overshoot mode a (G a) (powers least a) (powers_zero a least) (turning_linear F.variables G a l) (powers_signs a least (rw l least-signs))) in
+      overshoot mode a (G a) (powers least a) (powers_zero a least) (turning_linear F.variables G a l) (powers_signs a least (rw l least_signs))) in
       let e : sum I (λ a. low mode a (G a) +ℤ pos 2 *ℤ b a) ≡ lower F mode u H +ℤ pos 2 *ℤ pos (bend F u H) =
       sum-+ I (λ a. low mode a (G a)) (λ a. pos 2 *ℤ b a) ∙ ap (λ x. lower F mode u H +ℤ x) (sym (*ℤ-sum (pos 2) I b) ∙ ap (λ x. pos 2 *ℤ x) (sym (pos_sumℕ I (λ a. bent a (G a))))) in
       rw (local_whole F u H least) (≤ℤ_by (≤ℤ_trans k (≤ℤ_of_≡ e))
@@ -61,15 +61,15 @@ module _ (F : Polynomial) (u : Point) (H : ℕ) where
 module _ (F : Polynomial) (u : Point) (H : ℕ) where
   -- some corner value v has v - 2 bend ≤ lower, in both modes; and some corner value v has upper ≤ v + 2 bend
   pub lower_overshoot : (σ : Point) × Signs F σ × ((mode : Mode) → (value F (corner u H σ) 1 -ℤ pos (2 * bend F u H)) ≤ℤ lower F mode u H)
-  lower_overshoot = (least F u H, least-signs F u H, low-corner F u H)
+  lower_overshoot = (least F u H, least_signs F u H, low_corner F u H)
 
   pub upper_overshoot : (σ : Point) × Signs F σ × ((mode : Mode) → upper F mode u H ≤ℤ (value F (corner u H σ) 1 +ℤ pos (2 * bend F u H)))
   upper_overshoot =
       let O = opposite F in let σ = least O u H in let x = corner u H σ in
       let k : (mode : Mode) → upper F mode u H ≤ℤ (value F x 1 +ℤ pos (2 * bend F u H)) = λ mode.
-      ≤ℤ_by (low-corner O u H mode) (rw (upper_lower F mode u H, value_opposite F x 1, bend_opposite F u H)
+      ≤ℤ_by (low_corner O u H mode) (rw (upper_lower F mode u H, value_opposite F x 1, bend_opposite F u H)
       (ring (value F x 1 ∷ pos (bend F u H) ∷ lower O mode u H ∷ []) (λ v b l. v ⊕ # 2 ⊗ b ⊖ ⊝ l ≐ l ⊖ (⊝ v ⊖ # 2 ⊗ b)) tt)) in
-      (σ, least-signs O u H, k)
+      (σ, least_signs O u H, k)
 
   -- so where m is at most every corner value, m - 2 bend ≤ lower; and where m is at least every one, upper ≤ m + 2 bend
   pub lower_over_corners : (mode : Mode) (m : ℤ) → ((σ : Point) → Signs F σ → m ≤ℤ value F (corner u H σ) 1) → (m -ℤ pos (2 * bend F u H)) ≤ℤ lower F mode u H

@@ -19,7 +19,7 @@ use Rattle.forms.specs.Box.{InBox, Signs, corner}
 use Rattle.forms.specs.LocalForm.{local}
 use Rattle.forms.specs.Weight.{weight, Limited}
 use Rattle.forms.specs.Straight.{against}
-use Rattle.forms.proofs.Vectors.{vectors_fit, chooses-≤_pow, length-∸}
+use Rattle.forms.proofs.Vectors.{vectors_fit, chooses_≤_pow, length-∸}
 use Rattle.forms.proofs.Points.{powers_signs}
 use Rattle.forms.proofs.Shift.{shifts, shifts_+, shifts_*ℤ}
 use Rattle.forms.proofs.Taylor.{taylor, local_taylor}
@@ -58,7 +58,7 @@ module _ (F : Polynomial) (u : Point) (H : ℕ) (σ : Point) (s : Signs F σ) wh
   part_terms_size R r a = Nat.le_trans (sumℕ_mono (indices F) (λ e m.
       let l : length (e ∸ a) ≡ F.variables = length-∸ e a ∙ (vectors_fit F.variables F.degree m).0 in
       let g = local F u H e in
-      let c = Nat.mul-le-mul (Nat.mul-le-mul_left (nat_abs g) (chooses-≤_pow e a)) (powers_signs (e ∸ a) σ (rw l s)) in
+      let c = Nat.mul-le-mul (Nat.mul-le-mul_left (nat_abs g) (chooses_≤_pow e a)) (powers_signs (e ∸ a) σ (rw l s)) in
       rw (local_half F u H e, nat_abs-*ℤ (g *ℤ pos (chooses e a)), nat_abs-*ℤ g, nat_abs-*ℤ (pow (pos 2) (total e)), nat_abs_pow, Nat.mul_comm (2 ^ total e)) (rw Nat.mul-one at c)))
       (local_sum_size F u (2 * H) R r)
 

@@ -18,7 +18,7 @@ use Rattle.algebra.proofs.Power.{pos_pow, pow_*}
 use Rattle.algebra.proofs.Binomial.{choose_over}
 use Rattle.algebra.proofs.Ring.{ring, ◌⊕◌, ◌⊖◌, ◌⊗◌, ⊝◌, #◌, ◌≐◌}
 use Rattle.algebra.proofs.Sum.{sum_cong, sum_zero, pos_sumℕ}
-use Rattle.algebra.proofs.Run.{sum-⋯_from}
+use Rattle.algebra.proofs.Run.{sum_⋯_from}
 use Rattle.forms.specs.Vectors.{total, vectors, chooses, ◌∸◌, all_even}
 use Rattle.forms.specs.Points.{Point, Each, powers, powersℕ}
 use Rattle.forms.specs.Polynomial.{Index, scaled, value_term, value}
@@ -70,9 +70,9 @@ module _ (d k : ℕ) (A : ℕ → ℕ → ℤ) where
   value_plane M N Q = simp (value, value_term, scaled, sum_plane, scale_page, *ℤ_idr, *ℤ_assoc, Nat.add-zero, Nat.sub-add-eq)
 
   -- ---- G(a,b): the sum over i ≥ a and j ≥ b
-  all-terms : (U0 V0 : ℤ) (H a b : ℕ) → local (plane d (2 ^ (k + 1)) A) (pair U0 V0) H (a ∷ b ∷ []) ≡ sum (0 ⋯ d) (λ i. sum (0 ⋯ (d - i)) (λ j. moved_term (page_scaled d k A) U0 V0 (pos H) a b i j))
+  all_terms : (U0 V0 : ℤ) (H a b : ℕ) → local (plane d (2 ^ (k + 1)) A) (pair U0 V0) H (a ∷ b ∷ []) ≡ sum (0 ⋯ d) (λ i. sum (0 ⋯ (d - i)) (λ j. moved_term (page_scaled d k A) U0 V0 (pos H) a b i j))
   unfolding local scaled powers chooses ◌∸◌ total
-  all-terms U0 V0 H a b = sum_plane d (λ e. _) ∙ sum_cong (0 ⋯ d) (λ i m. sum_cong (0 ⋯ (d - i)) (λ j l.
+  all_terms U0 V0 H a b = sum_plane d (λ e. _) ∙ sum_cong (0 ⋯ d) (λ i m. sum_cong (0 ⋯ (d - i)) (λ j l.
       let e : d - (i + (j + 0)) ≡ d - i - j = omega arith in let z : a + (b + 0) ≡ a + b = omega arith in
       rw (e, z, scale_page k (d - i - j), Nat.mul-one (choose j b), *ℤ_idr (pow V0 (j - b)))
       (ring (A i j ∷ pos (2 ^ ((k + 1) * (d - i - j))) ∷ pos (choose i a) ∷ pos (choose j b) ∷ pow U0 (i - a) ∷ pow V0 (j - b) ∷ pow (pos H) (a + b) ∷ [])
@@ -84,7 +84,7 @@ module _ (d k : ℕ) (A : ℕ → ℕ → ℤ) where
       let t : ℕ → ℕ → ℤ = moved_term (page_scaled d k A) U0 V0 (pos H) a b in
       let first : (i : ℕ) → i < a → sum (0 ⋯ (d - i)) (t i) ≡ pos 0 = λ i l. sum_cong (0 ⋯ (d - i)) (λ j k. simp (choose_over i a l, *ℤ-zero, zero-*ℤ)) ∙ sum_zero (0 ⋯ (d - i)) in
       let second : (i j : ℕ) → j < b → t i j ≡ pos 0 = λ i j l. simp (choose_over j b l, *ℤ-zero, zero-*ℤ) in
-      all-terms U0 V0 H a b ∙ sum-⋯_from a d (λ i. sum (0 ⋯ (d - i)) (t i)) first ∙ sum_cong (a ⋯ d) (λ i m. sum-⋯_from b (d - i) (t i) (second i))
+      all_terms U0 V0 H a b ∙ sum_⋯_from a d (λ i. sum (0 ⋯ (d - i)) (t i)) first ∙ sum_cong (a ⋯ d) (λ i m. sum_⋯_from b (d - i) (t i) (second i))
 
   -- ---- the weight: 2^((k+1)d) times the sum of |A(i,j)| Rx^i Ry^j, and of |A(i,j)| R^(i+j) where R is the limit of both variables
   pub weight_axes : (R : ℕ → ℕ) → weight (plane d (2 ^ (k + 1)) A) R ≡ 2 ^ ((k + 1) * d) * sumℕ (0 ⋯ d) (λ i. sumℕ (0 ⋯ (d - i)) (λ j. nat_abs (A i j) * R 0 ^ i * R 1 ^ j))
@@ -120,11 +120,11 @@ module _ (d S : ℕ) (A : ℕ → ℕ → ℤ) where
 -- ---- what G(a,b) = g adds to them
 even_is : (mode : Mode) (a b : ℕ) → even_rule mode (a ∷ b ∷ []) ≡ even_pair mode a b
 unfolding all_even
-even_is affine a b = ap (λ t. eqb (a % 2) 0 && t) (and-true (eqb (b % 2) 0))
+even_is affine a b = ap (λ t. eqb (a % 2) 0 && t) (and_true (eqb (b % 2) 0))
   where
-    and-true : (x : Bool) → x && true ≡ x
-    and-true true = refl
-    and-true false = refl
+    and_true : (x : Bool) → x && true ≡ x
+    and_true true = refl
+    and_true false = refl
 even_is centred a b = refl
 
 pub low_plane : (mode : Mode) (a b : ℕ) (g : ℤ) → low mode (a ∷ b ∷ []) g ≡ cond (eqb (a + b) 0) g (cond (even_pair mode a b) (minℤ (pos 0) g) (neg_ℤ (pos (nat_abs g))))

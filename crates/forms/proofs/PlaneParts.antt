@@ -10,7 +10,7 @@ use Rattle.algebra.specs.Binomial.{choose}
 use Rattle.algebra.proofs.Power.{one_pow}
 use Rattle.algebra.proofs.Ring.{ring, ◌⊗◌, #◌, ◌≐◌}
 use Rattle.algebra.proofs.Sum.{sum_cong, sum_zero}
-use Rattle.algebra.proofs.Run.{sum-⋯_from}
+use Rattle.algebra.proofs.Run.{sum_⋯_from}
 use Rattle.algebra.proofs.Binomial.{choose_over}
 use Rattle.forms.specs.Vectors.{chooses, ◌∸◌}
 use Rattle.forms.specs.Points.{Point, powers}
@@ -32,9 +32,9 @@ module _ (d S : ℕ) (A : ℕ → ℕ → ℤ) (u : Point) (H : ℕ) (x y : ℤ)
   abbrev whole : ℕ → ℕ → ℤ
   whole i j = local (plane d S A) u H (i ∷ j ∷ [])
 
-  all-terms : (a b : ℕ) → a + b ≤ d → local (plane d S A) (corner u H (pair x y)) H (a ∷ b ∷ []) ≡ sum (0 ⋯ d) (λ i. sum (0 ⋯ (d - i)) (λ j. moved_term whole x y (pos 1) a b i j))
+  all_terms : (a b : ℕ) → a + b ≤ d → local (plane d S A) (corner u H (pair x y)) H (a ∷ b ∷ []) ≡ sum (0 ⋯ d) (λ i. sum (0 ⋯ (d - i)) (λ j. moved_term whole x y (pos 1) a b i j))
   unfolding powers chooses ◌∸◌
-  all-terms a b l = local_part (plane d S A) u H (pair x y) (a ∷ b ∷ []) (pair_index d S A a b l) ∙ sum_plane d (λ e. _) ∙ sum_cong (0 ⋯ d) (λ i m. sum_cong (0 ⋯ (d - i)) (λ j k.
+  all_terms a b l = local_part (plane d S A) u H (pair x y) (a ∷ b ∷ []) (pair_index d S A a b l) ∙ sum_plane d (λ e. _) ∙ sum_cong (0 ⋯ d) (λ i m. sum_cong (0 ⋯ (d - i)) (λ j k.
       rw (Nat.mul-one (choose j b), *ℤ_idr (pow y (j - b)), one_pow (a + b))
       (ring (whole i j ∷ pos (choose i a) ∷ pos (choose j b) ∷ pow x (i - a) ∷ pow y (j - b) ∷ []) (λ g c e p q. g ⊗ (c ⊗ e) ⊗ (p ⊗ q) ≐ g ⊗ c ⊗ e ⊗ p ⊗ q ⊗ # 1) tt)))
 
@@ -45,4 +45,4 @@ module _ (d S : ℕ) (A : ℕ → ℕ → ℤ) (u : Point) (H : ℕ) (x y : ℤ)
       let t : ℕ → ℕ → ℤ = moved_term whole x y (pos 1) a b in
       let first : (i : ℕ) → i < a → sum (0 ⋯ (d - i)) (t i) ≡ pos 0 = λ i l. sum_cong (0 ⋯ (d - i)) (λ j k. simp (choose_over i a l, *ℤ-zero, zero-*ℤ)) ∙ sum_zero (0 ⋯ (d - i)) in
       let second : (i j : ℕ) → j < b → t i j ≡ pos 0 = λ i j l. simp (choose_over j b l, *ℤ-zero, zero-*ℤ) in
-      all-terms a b l ∙ sum-⋯_from a d (λ i. sum (0 ⋯ (d - i)) (t i)) first ∙ sum_cong (a ⋯ d) (λ i m. sum-⋯_from b (d - i) (t i) (second i))
+      all_terms a b l ∙ sum_⋯_from a d (λ i. sum (0 ⋯ (d - i)) (t i)) first ∙ sum_cong (a ⋯ d) (λ i m. sum_⋯_from b (d - i) (t i) (second i))

@@ -72,18 +72,18 @@ module _ (F : Polynomial) (R : ℕ → ℕ) (f : List ℕ → ℤ) (h : sumℕ (
 
 -- ---- the terms of the local form
 module _ (F : Polynomial) (u : Point) (H : ℕ) where
-  natAbs-term : (a e : List ℕ) → nat_abs (local_term F u H a e) ≡ nat_abs (scaled F e) * chooses e a * powersℕ (λ v. nat_abs (u v)) (e ∸ a) * H ^ total a
-  natAbs-term a e = simp (nat_abs-*ℤ, nat_abs_pow, nat_abs_powers)
+  nat_abs_term : (a e : List ℕ) → nat_abs (local_term F u H a e) ≡ nat_abs (scaled F e) * chooses e a * powersℕ (λ v. nat_abs (u v)) (e ∸ a) * H ^ total a
+  nat_abs_term a e = simp (nat_abs-*ℤ, nat_abs_pow, nat_abs_powers)
 
   -- those of one e together, by the binomial theorem: |A(e)| S^(d-|e|) (|u| + H)^e
-  terms-of : {e : List ℕ} → Memᴰ e (indices F) → sumℕ (indices F) (λ a. nat_abs (local_term F u H a e)) ≡ nat_abs (scaled F e) * powersℕ (λ v. nat_abs (u v) + H) e
+  terms_of : {e : List ℕ} → Memᴰ e (indices F) → sumℕ (indices F) (λ a. nat_abs (local_term F u H a e)) ≡ nat_abs (scaled F e) * powersℕ (λ v. nat_abs (u v) + H) e
   unfolding shifts
-  terms-of {e} m =
+  terms_of {e} m =
       let n = F.variables in let d = F.degree in let I = indices F in let c = pos (nat_abs (scaled F e)) in let (l, s) = vectors_fit n d m in
       let w : Point = λ v. pos (nat_abs (u v)) in let r : ℕ → ℕ = λ v. nat_abs (u v) + H in
       let p : powers (λ v. pos (r v)) e ≡ sum I (λ a. shifts w e a *ℤ powers (λ v. pos H) a) = powers-+ e n d w (λ v. pos H) l s in
       let q : pos (sumℕ I (λ a. nat_abs (local_term F u H a e))) ≡ c *ℤ powers (λ v. pos (r v)) e = rw (pos_sumℕ, p, *ℤ-sum) (sum_cong I (λ a i.
-      rw (natAbs-term a e, pos_powersℕ (e ∸ a) (λ v. nat_abs (u v)), powers_equal a (pos H), pos_pow)
+      rw (nat_abs_term a e, pos_powersℕ (e ∸ a) (λ v. nat_abs (u v)), powers_equal a (pos H), pos_pow)
       (ring (c ∷ pos (chooses e a) ∷ pos (powersℕ (λ v. nat_abs (u v)) (e ∸ a)) ∷ pos (H ^ total a) ∷ []) (λ c b p h. c ⊗ b ⊗ p ⊗ h ≐ c ⊗ (b ⊗ p ⊗ h)) tt))) in
       ap nat_abs (q ∙ ap (λ x. c *ℤ x) (pos_powersℕ e r))
 
@@ -92,7 +92,7 @@ module _ (F : Polynomial) (u : Point) (H : ℕ) (R : ℕ → ℕ) (h : Limited F
   pub all_terms_size : sumℕ (indices F) (λ a. sumℕ (indices F) (λ e. nat_abs (local_term F u H a e))) ≤ weight F R
   unfolding majorant
   all_terms_size = rw (sumℕ_swap (indices F) (indices F) (λ a e. nat_abs (local_term F u H a e)), weight_majorants F R) (sumℕ_mono (indices F) (λ e m.
-      rw (terms-of F u H m) (Nat.mul-le-mul_left (nat_abs (scaled F e)) (powersℕ_mono e (λ v. nat_abs (u v) + H) (λ v. F.scale * R v) (rw (vectors_fit F.variables F.degree m).0 h)))))
+      rw (terms_of F u H m) (Nat.mul-le-mul_left (nat_abs (scaled F e)) (powersℕ_mono e (λ v. nat_abs (u v) + H) (λ v. F.scale * R v) (rw (vectors_fit F.variables F.degree m).0 h)))))
 
   -- those of G(a) together, and so G(a) itself
   pub terms_size : (a : List ℕ) → Index F a → sumℕ (indices F) (λ e. nat_abs (local_term F u H a e)) ≤ weight F R

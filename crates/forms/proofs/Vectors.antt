@@ -16,7 +16,7 @@ use Rattle.algebra.specs.Binomial.{choose}
 use Rattle.algebra.proofs.Choice.{and_l, and_r}
 use Rattle.algebra.proofs.Sum.{sum_map, sum_flat_map, sum_cong}
 use Rattle.algebra.proofs.Run.{⋯_member, member_⋯}
-use Rattle.algebra.proofs.Binomial.{choose_over, choose-≤_pow}
+use Rattle.algebra.proofs.Binomial.{choose_over, choose_≤_pow}
 use Rattle.forms.specs.Vectors.{total, vectors, chooses, ◌∸◌, all_even}
 
 -- ---- sums over the vectors: one variable more is one sum more
@@ -30,24 +30,24 @@ sum_vectors_suc n d f = sum_flat_map (λ i. map (λ e. i ∷ e) (vectors n (d - 
 
 -- ---- which they are: the vectors of n exponents with |e| ≤ d, all of them
 module _ {A B : Type 0} (f : A → List B) where
-  flatMap-member : (xs : List A) {b : B} → Memᴰ b (flat_map f xs) → (a : A) × Memᴰ a xs × Memᴰ b (f a)
+  flat_map_member : (xs : List A) {b : B} → Memᴰ b (flat_map f xs) → (a : A) × Memᴰ a xs × Memᴰ b (f a)
   unfolding flat_map
-  flatMap-member [] m = absurd (Memᴰ.not-nil m)
-  flatMap-member (x ∷ xs) m = elim (Memᴰ.append_cases (f x) m) [
+  flat_map_member [] m = absurd (Memᴰ.not-nil m)
+  flat_map_member (x ∷ xs) m = elim (Memᴰ.append_cases (f x) m) [
     | inl k ↦ (x, Memᴰ.head refl, k)
-    | inr r ↦ let (a, i, k) = flatMap-member xs r in (a, Memᴰ.tail i, k)
+    | inr r ↦ let (a, i, k) = flat_map_member xs r in (a, Memᴰ.tail i, k)
   ]
 
-  member-flatMap : {xs : List A} {a : A} {b : B} → Memᴰ a xs → Memᴰ b (f a) → Memᴰ b (flat_map f xs)
+  member_flat_map : {a : A} {xs : List A} {b : B} → Memᴰ a xs → Memᴰ b (f a) → Memᴰ b (flat_map f xs)
   unfolding flat_map
-  member-flatMap (Memᴰ.head {xs = xs} e) k = Memᴰ.append_left (flat_map f xs) (rw e at k)
-  member-flatMap (Memᴰ.tail {x = x} m) k = Memᴰ.append_right (f x) (member-flatMap m k)
+  member_flat_map (Memᴰ.head {xs = xs} e) k = Memᴰ.append_left (flat_map f xs) (rw e at k)
+  member_flat_map (Memᴰ.tail {x = x} m) k = Memᴰ.append_right (f x) (member_flat_map m k)
 
 pub vectors_fit : (n d : ℕ) {e : List ℕ} → Memᴰ e (vectors n d) → (length e ≡ n) × (total e ≤ d)
 unfolding vectors total
 vectors_fit zero d m = rw (Memᴰ.eq_of_singleton m) (omega arith)
 vectors_fit (suc n) d m =
-    let (i, j, k) = flatMap-member (λ i. map (λ e. i ∷ e) (vectors n (d - i))) (0 ⋯ d) m in
+    let (i, j, k) = flat_map_member (λ i. map (λ e. i ∷ e) (vectors n (d - i))) (0 ⋯ d) m in
     let (e, l, p) = Memᴰ.of_map (λ e. i ∷ e) (vectors n (d - i)) k in
     let (q, r) = vectors_fit n (d - i) l in let s = ⋯_member 0 d j in
     rw (← p) (ap suc q, omega arith)
@@ -58,7 +58,7 @@ fit_vectors zero d [] h = Memᴰ.head refl
 fit_vectors zero d (i ∷ e) h = absurd (omega arith)
 fit_vectors (suc n) d [] h = absurd (omega arith)
 fit_vectors (suc n) d (i ∷ e) h =
-    member-flatMap (λ i. map (λ e. i ∷ e) (vectors n (d - i))) (member_⋯ 0 d i (omega arith) (omega arith)) (Memᴰ.map (λ e. i ∷ e) (fit_vectors n (d - i) e (omega arith)))
+    member_flat_map (λ i. map (λ e. i ∷ e) (vectors n (d - i))) (member_⋯ 0 d i (omega arith) (omega arith)) (Memᴰ.map (λ e. i ∷ e) (fit_vectors n (d - i) e (omega arith)))
 
 -- the only vector with |a| = 0
 pub zeros : (n : ℕ) (a : List ℕ) → length a ≡ n → total a ≡ 0 → a ≡ replicate n 0
@@ -83,11 +83,11 @@ chooses_or_∸ (i ∷ e) (k ∷ a) h = elim (dec_lt i k) [
   ]
 ]
 
-pub chooses-≤_pow : (e a : List ℕ) → chooses e a ≤ 2 ^ total e
+pub chooses_≤_pow : (e a : List ℕ) → chooses e a ≤ 2 ^ total e
 unfolding chooses total
-chooses-≤_pow [] a = Nat.le_refl 1
-chooses-≤_pow (i ∷ e) [] = pow_pos (i + total e)
-chooses-≤_pow (i ∷ e) (k ∷ a) = rw pow-add (Nat.mul-le-mul (choose-≤_pow i k) (chooses-≤_pow e a))
+chooses_≤_pow [] a = Nat.le_refl 1
+chooses_≤_pow (i ∷ e) [] = pow_pos (i + total e)
+chooses_≤_pow (i ∷ e) (k ∷ a) = rw pow-add (Nat.mul-le-mul (choose_≤_pow i k) (chooses_≤_pow e a))
 
 pub length-∸ : (e a : List ℕ) → length (e ∸ a) ≡ length e
 unfolding ◌∸◌

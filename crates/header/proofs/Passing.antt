@@ -120,11 +120,11 @@ module _ (text : List ℕ) (at : ℕ) where
       opened_other n = unopened (omega arith) (λ rest. by_first f rest ∙ rw (ne_eqb (get_or text at 0) 35 n))
 
       module _ (n : get_or text at 0 ≡ 35) {end : ℕ} (c : CommentPassed text (at + 1) end) where
-        by-comment : (rest : List ℕ → Found) → opening_then (drop at text) rest ≡ cond (ltb end (length text)) (rest (drop (end + 1) text)) not_plain
-        by-comment rest = by_first f rest ∙ rw (eq-eqb (get_or text at 0) 35 n) (c.step rest)
+        by_comment : (rest : List ℕ → Found) → opening_then (drop at text) rest ≡ cond (ltb end (length text)) (rest (drop (end + 1) text)) not_plain
+        by_comment rest = by_first f rest ∙ rw (eq-eqb (get_or text at 0) 35 n) (c.step rest)
 
         pub opened_unended : end ≡ length text → Opened text at at
-        opened_unended q = unopened (omega arith) (λ rest. by-comment rest ∙ rw (le-ltb end (length text) (omega arith)))
+        opened_unended q = unopened (omega arith) (λ rest. by_comment rest ∙ rw (le-ltb end (length text) (omega arith)))
 
         pub opened_comment : end < length text → Opened text at (end + 1)
-        opened_comment l = record { step = λ rest. by-comment rest ∙ let g = c.further in rw (lt-ltb end (length text) l, lt-ltb at (end + 1) (omega arith)); within = omega arith }
+        opened_comment l = record { step = λ rest. by_comment rest ∙ let g = c.further in rw (lt-ltb end (length text) l, lt-ltb at (end + 1) (omega arith)); within = omega arith }

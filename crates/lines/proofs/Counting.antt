@@ -26,10 +26,10 @@ fault_of Number.Malformed = 16
 
 -- it decides what comes of the fields from the n-th on, how many of them read well, and the first one's number
 module _ (negative : Bool) (f : List ℕ) where
-  first-told : (n : ℕ) (ns : List Bool) (fs : List (List ℕ)) (more : List Trial) (zs : List ℤ)
+  first_told : (n : ℕ) (ns : List Bool) (fs : List (List ℕ)) (more : List Trial) (zs : List ℤ)
       → first_fault (number_faults n (negative ∷ ns) (f ∷ fs) ++ more) zs ≡ unless_fault (fault_of (number_in negative f)) n (first_fault (number_faults (n + 1) ns fs ++ more) zs)
   unfolding number_in
-  first-told n ns fs more zs = by (is_written f) (is_within negative (worth f)) (first_fault (number_faults (n + 1) ns fs ++ more) zs)
+  first_told n ns fs more zs = by (is_written f) (is_within negative (worth f)) (first_fault (number_faults (n + 1) ns fs ++ more) zs)
     where
       by : (w i : Bool) (rest : Numbers)
           → cond (not w) (faulty (fault 16 n)) (cond (not i) (faulty (fault 17 n)) rest) ≡ unless_fault (fault_of (cond w (cond i (Number.Whole (worth f)) Number.Outside) Number.Malformed)) n rest
@@ -37,18 +37,18 @@ module _ (negative : Bool) (f : List ℕ) where
       by true false rest = refl
       by false i rest = refl
 
-  first-well : (ns : List Bool) (fs : List (List ℕ)) → well_before (negative ∷ ns) (f ∷ fs) ≡ cond (eqb (fault_of (number_in negative f)) 0) (suc (well_before ns fs)) 0
+  first_well : (ns : List Bool) (fs : List (List ℕ)) → well_before (negative ∷ ns) (f ∷ fs) ≡ cond (eqb (fault_of (number_in negative f)) 0) (suc (well_before ns fs)) 0
   unfolding number_in
-  first-well ns fs = by (is_written f) (is_within negative (worth f)) (well_before ns fs)
+  first_well ns fs = by (is_written f) (is_within negative (worth f)) (well_before ns fs)
     where
       by : (w i : Bool) (k : ℕ) → cond (w && i) (suc k) 0 ≡ cond (eqb (fault_of (cond w (cond i (Number.Whole (worth f)) Number.Outside) Number.Malformed)) 0) (suc k) 0
       by true true k = refl
       by true false k = refl
       by false i k = refl
 
-  first-worth : (z : ℤ) → Number.Whole z ≡ number_in negative f → z ≡ worth f
+  first_worth : (z : ℤ) → Number.Whole z ≡ number_in negative f → z ≡ worth f
   unfolding number_in
-  first-worth z e = by (is_written f) (is_within negative (worth f)) e
+  first_worth z e = by (is_written f) (is_within negative (worth f)) e
     where
       by : (w i : Bool) → Number.Whole z ≡ cond w (cond i (Number.Whole (worth f)) Number.Outside) Number.Malformed → z ≡ worth f
       by true true e = cc
@@ -81,27 +81,27 @@ module _ (ns : List Bool) (fs : List (List ℕ)) where
   module _ {values : List ℤ} {i : ℕ} (k : Reading ns fs values i) where
     -- the next field, by the number p of its fault
     module _ (h : i < length ns) {p : ℕ} (e : fault_of (number_in (get_or ns i false) (get_or fs i [])) ≡ p) where
-      told-next : (more : List Trial) (zs : List ℤ)
+      told_next : (more : List Trial) (zs : List ℤ)
           → first_fault (number_faults 2 ns fs ++ more) zs ≡ unless_fault p (i + 2) (first_fault (number_faults (i + 1 + 2) (drop (i + 1) ns) (drop (i + 1) fs) ++ more) zs)
-      told-next more zs =
+      told_next more zs =
           let s : i + 2 + 1 ≡ i + 1 + 2 = omega arith in
           k.told more zs
           ∙ ap₂ (λ ss gs. first_fault (number_faults (i + 2) ss gs ++ more) zs) (next_one ns i false h) (next_one fs i [] (omega (arith, k.same)))
-          ∙ first-told (get_or ns i false) (get_or fs i []) (i + 2) (drop (i + 1) ns) (drop (i + 1) fs) more zs
+          ∙ first_told (get_or ns i false) (get_or fs i []) (i + 2) (drop (i + 1) ns) (drop (i + 1) fs) more zs
           ∙ ap₂ (λ q m. unless_fault q (i + 2) (first_fault (number_faults m (drop (i + 1) ns) (drop (i + 1) fs) ++ more) zs)) e s
 
-      well-next : well_before ns fs ≡ i + cond (eqb p 0) (suc (well_before (drop (i + 1) ns) (drop (i + 1) fs))) 0
-      well-next =
+      well_next : well_before ns fs ≡ i + cond (eqb p 0) (suc (well_before (drop (i + 1) ns) (drop (i + 1) fs))) 0
+      well_next =
           k.well ∙ ap₂ (λ ss gs. i + well_before ss gs) (next_one ns i false h) (next_one fs i [] (omega (arith, k.same)))
-          ∙ ap (λ m. i + m) (first-well (get_or ns i false) (get_or fs i []) (drop (i + 1) ns) (drop (i + 1) fs))
+          ∙ ap (λ m. i + m) (first_well (get_or ns i false) (get_or fs i []) (drop (i + 1) ns) (drop (i + 1) fs))
           ∙ ap (λ q. i + cond (eqb q 0) (suc (well_before (drop (i + 1) ns) (drop (i + 1) fs))) 0) e
 
       -- it is faulty: then nothing after it matters
-      told-fault : (p ≡ 0 → ⊥) → (more : List Trial) (zs : List ℤ) (other : Numbers) → first_fault (number_faults 2 ns fs ++ more) zs ≡ unless_fault p (i + 2) other
-      told-fault z more zs other = told-next more zs ∙ rw (ne_eqb p 0 z)
+      told_fault : (p ≡ 0 → ⊥) → (more : List Trial) (zs : List ℤ) (other : Numbers) → first_fault (number_faults 2 ns fs ++ more) zs ≡ unless_fault p (i + 2) other
+      told_fault z more zs other = told_next more zs ∙ rw (ne_eqb p 0 z)
 
-      well-fault : (p ≡ 0 → ⊥) → well_before ns fs ≡ i
-      well-fault z = well-next ∙ ap (λ b. i + cond b (suc (well_before (drop (i + 1) ns) (drop (i + 1) fs))) 0) (ne_eqb p 0 z) ∙ Nat.add-zero i
+      well_fault : (p ≡ 0 → ⊥) → well_before ns fs ≡ i
+      well_fault z = well_next ∙ ap (λ b. i + cond b (suc (well_before (drop (i + 1) ns) (drop (i + 1) fs))) 0) (ne_eqb p 0 z) ∙ Nat.add-zero i
 
     -- it is a number
     pub reading_next : i < length ns → {z : ℤ} → number_in (get_or ns i false) (get_or fs i []) ≡ Number.Whole z → i < 3 → Reading ns fs (set values i z) (i + 1)
@@ -111,10 +111,10 @@ module _ (ns : List Bool) (fs : List (List ℕ)) where
           some = omega arith;
           same = k.same;
           long = length-set values i z ∙ k.long;
-          told = told-next h f;
-          well = well-next h f ∙ omega arith;
+          told = told_next h f;
+          well = well_next h f ∙ omega arith;
           are =
-              let w = first-worth (get_or ns i false) (get_or fs i []) z (sym e) in
+              let w = first_worth (get_or ns i false) (get_or fs i []) z (sym e) in
               ap (λ m. take m (set values i z)) (add-one i) ∙ take-suc-set values i z (omega (arith, k.long)) ∙ ap₂ (λ zs y. zs ++ (y ∷ [])) k.are w
               ∙ sym (worth_more fs i (omega (arith, k.same)));
         }
@@ -124,14 +124,14 @@ module _ (ns : List Bool) (fs : List (List ℕ)) where
       none_left : drop i ns ≡ []
       none_left = drop_of_length-le ns {i = i} (omega arith)
 
-      told-end : (more : List Trial) (zs : List ℤ) → first_fault (number_faults 2 ns fs ++ more) zs ≡ first_fault more zs
-      told-end more zs = k.told more zs ∙ ap (λ ss. first_fault (number_faults (i + 2) ss (drop i fs) ++ more) zs) none_left
+      told_end : (more : List Trial) (zs : List ℤ) → first_fault (number_faults 2 ns fs ++ more) zs ≡ first_fault more zs
+      told_end more zs = k.told more zs ∙ ap (λ ss. first_fault (number_faults (i + 2) ss (drop i fs) ++ more) zs) none_left
 
-      well-end : well_before ns fs ≡ i
-      well-end = k.well ∙ ap (λ ss. i + well_before ss (drop i fs)) none_left ∙ omega arith
+      well_end : well_before ns fs ≡ i
+      well_end = k.well ∙ ap (λ ss. i + well_before ss (drop i fs)) none_left ∙ omega arith
 
-      are-end : take i values ≡ map worth fs
-      are-end = k.are ∙ take_all i (map worth fs) (omega (arith, length-map fs worth, k.same))
+      are_end : take i values ≡ map worth fs
+      are_end = k.are ∙ take_all i (map worth fs) (omega (arith, length-map fs worth, k.same))
 
 -- ---- a line: its letter, the count of its numbers, and these
 module _ (line : List ℕ) (letter n : ℕ) (signs : List Bool) where
@@ -149,20 +149,20 @@ module _ (line : List ℕ) (letter n : ℕ) (signs : List Bool) where
         record { told = λ ended. rw (b, q); read = λ ended. rw (b, q); values = λ ended. refl; three = l }
 
     module _ {values : List ℤ} {i : ℕ} (k : Reading (take n signs) (numbers_in line) values i) where
-      told-on : (ended : Bool) → line_numbers letter (take n signs) (line_of line ended)
+      told_on : (ended : Bool) → line_numbers letter (take n signs) (line_of line ended)
           ≡ first_fault (number_faults 2 (take n signs) (numbers_in line) ++ ((20 at_field 0 when not ended) ∷ [])) (map worth (numbers_in line))
       unfolding line_numbers
-      told-on ended = rw (b, eq-eqb (length (numbers_in line)) (length (take n signs)) k.same)
+      told_on ended = rw (b, eq-eqb (length (numbers_in line)) (length (take n signs)) k.same)
 
-      read-on : (ended : Bool) → read_in letter (take n signs) (line_of line ended) ≡ well_before (take n signs) (numbers_in line)
+      read_on : (ended : Bool) → read_in letter (take n signs) (line_of line ended) ≡ well_before (take n signs) (numbers_in line)
       unfolding read_in
-      read-on ended = rw (b, eq-eqb (length (numbers_in line)) (length (take n signs)) k.same)
+      read_on ended = rw (b, eq-eqb (length (numbers_in line)) (length (take n signs)) k.same)
 
       -- the next number is faulty
       pub line_fault : i < length (take n signs) → {p : ℕ} → fault_of (number_in (get_or (take n signs) i false) (get_or (numbers_in line) i [])) ≡ p → (p ≡ 0 → ⊥) → LineRead line letter n signs (fault_after p i values)
       line_fault h {p} e z = record {
-        told = λ ended. told-on ended ∙ told-fault (take n signs) (numbers_in line) k h e z _ _ _;
-        read = λ ended. sym (read-on ended ∙ well-fault (take n signs) (numbers_in line) k h e z);
+        told = λ ended. told_on ended ∙ told_fault (take n signs) (numbers_in line) k h e z _ _ _;
+        read = λ ended. sym (read_on ended ∙ well_fault (take n signs) (numbers_in line) k h e z);
         values = λ ended. k.are;
         three = k.long;
       }
@@ -171,10 +171,10 @@ module _ (line : List ℕ) (letter n : ℕ) (signs : List Bool) where
       pub line_read : n ≤ i → n ≤ length signs → LineRead line letter n signs (record { fault = 0; field = 0; read = n; values = values })
       line_read g l =
           let q : i ≡ length (take n signs) = omega (arith, length-take n signs, k.some) in let e : i ≡ n = omega (arith, length-take n signs) in
-          let are : take n values ≡ map worth (numbers_in line) = rw (sym e) (are-end (take n signs) (numbers_in line) k q) in
+          let are : take n values ≡ map worth (numbers_in line) = rw (sym e) (are_end (take n signs) (numbers_in line) k q) in
           record {
-            told = λ ended. told-on ended ∙ told-end (take n signs) (numbers_in line) k q _ _ ∙ closing ended are;
-            read = λ ended. sym (read-on ended ∙ well-end (take n signs) (numbers_in line) k q ∙ e);
+            told = λ ended. told_on ended ∙ told_end (take n signs) (numbers_in line) k q _ _ ∙ closing ended are;
+            read = λ ended. sym (read_on ended ∙ well_end (take n signs) (numbers_in line) k q ∙ e);
             values = λ ended. rw (sym e) k.are;
             three = k.long;
           }

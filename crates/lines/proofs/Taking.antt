@@ -11,7 +11,7 @@ use lib.Dec.{ltb, eqb}
 use lib.IntN.{ℤ}
 use lib.ListN.{length, take, drop, drop_of_length-le}
 use Rattle.page.specs.SheetLine.{Line, lines, fault, faulty, good, line_numbers}
-use Rattle.page.specs.SheetText.{Text, bad-line, with_line, line_then}
+use Rattle.page.specs.SheetText.{Text, bad_line, with_line, line_then}
 use Rattle.lines.specs.declared.Numbers as Read
 use Rattle.lines.specs.declared.Taken.{Taken}
 use Rattle.lines.specs.Steps.{line_of, unless_fault, LineRead, none_at, taken_as, closed_at, LineTaken}
@@ -56,10 +56,10 @@ module _ (text : List ℕ) (at letter n : ℕ) (signs : List Bool) {end : ℕ} (
 
 -- ---- what is done with the line and those after it
 -- by the first fault of the line, or its numbers
-pub by_fault : (number p field : ℕ) (zs : List ℤ) (rest : List ℤ → Text) → with_line number (unless_fault p field (good zs)) rest ≡ cond (eqb p 0) (rest zs) (bad-line number (fault p field))
+pub by_fault : (number p field : ℕ) (zs : List ℤ) (rest : List ℤ → Text) → with_line number (unless_fault p field (good zs)) rest ≡ cond (eqb p 0) (rest zs) (bad_line number (fault p field))
 by_fault number p field zs rest = by (eqb p 0)
   where
-    by : (b : Bool) → with_line number (cond b (good zs) (faulty (fault p field))) rest ≡ cond b (rest zs) (bad-line number (fault p field))
+    by : (b : Bool) → with_line number (cond b (good zs) (faulty (fault p field))) rest ≡ cond b (rest zs) (bad_line number (fault p field))
     by true = refl
     by false = refl
 
@@ -82,22 +82,22 @@ module _ {text : List ℕ} {at letter n : ℕ} {signs : List Bool} {r : Taken} (
   module _ (number : ℕ) (rest : List ℤ → List Line → Text) where
     -- the text is bad at this line by its fault, or its numbers and the lines after it decide
     abbrev told : Type 0
-    told = line_then number letter (take n signs) (lines (drop at text)) rest ≡ cond (eqb r.fault 0) (rest (take n r.values) (lines (drop r.next text))) (bad-line number (fault r.fault r.field))
+    told = line_then number letter (take n signs) (lines (drop at text)) rest ≡ cond (eqb r.fault 0) (rest (take n r.values) (lines (drop r.next text))) (bad_line number (fault r.fault r.field))
 
-    missing-taken : at ≡ length text → told
+    missing_taken : at ≡ length text → told
     unfolding lines
-    missing-taken e = let q = t.none e in rw (q.0, q.1, drop_of_length-le text {i = at} (omega arith))
+    missing_taken e = let q = t.none e in rw (q.0, q.1, drop_of_length-le text {i = at} (omega arith))
 
-    some-taken : at < length text → told
-    some-taken s =
+    some_taken : at < length text → told
+    some_taken s =
         let k = t.some s in
         ap (λ ls. line_then number letter (take n signs) ls rest) k.here
         ∙ ap (λ ns. with_line number ns (λ zs. rest zs k.more)) k.told
         ∙ by_fault number r.fault r.field (take n r.values) (λ zs. rest zs k.more)
-        ∙ where_good r.fault (bad-line number (fault r.fault r.field)) (λ z. ap (rest (take n r.values)) (k.after z))
+        ∙ where_good r.fault (bad_line number (fault r.fault r.field)) (λ z. ap (rest (take n r.values)) (k.after z))
 
-    pub then_taken : line_then number letter (take n signs) (lines (drop at text)) rest ≡ cond (eqb r.fault 0) (rest (take n r.values) (lines (drop r.next text))) (bad-line number (fault r.fault r.field))
+    pub then_taken : line_then number letter (take n signs) (lines (drop at text)) rest ≡ cond (eqb r.fault 0) (rest (take n r.values) (lines (drop r.next text))) (bad_line number (fault r.fault r.field))
     then_taken = elim (Nat.eq-or-lt_of_le h) [
-      | inl e ↦ missing-taken e
-      | inr s ↦ some-taken s
+      | inl e ↦ missing_taken e
+      | inr s ↦ some_taken s
     ]

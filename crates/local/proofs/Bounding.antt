@@ -57,8 +57,8 @@ low_lift mode a b g = rw (low_plane mode a b g) (go (eqb (a + b) 0) (even_pair m
 
 -- and all places together
 module _ (d : ℕ) (mode : Mode) (g : ℕ → ℕ → ℤ) where
-  lower-lift : lower_of d mode g +ℤ pos (triangle d (λ a b. nat_abs (g a b))) ≡ pos (triangle d (λ a b. lift mode a b (above_zero (g a b))))
-  lower-lift =
+  lower_lift : lower_of d mode g +ℤ pos (triangle d (λ a b. nat_abs (g a b))) ≡ pos (triangle d (λ a b. lift mode a b (above_zero (g a b))))
+  lower_lift =
       let t : pos (triangle d (λ a b. nat_abs (g a b))) ≡ sum (0 ⋯ d) (λ a. sum (0 ⋯ (d - a)) (λ b. pos (nat_abs (g a b)))) = simp pos_sumℕ in
       let u : pos (triangle d (λ a b. lift mode a b (above_zero (g a b)))) ≡ sum (0 ⋯ d) (λ a. sum (0 ⋯ (d - a)) (λ b. pos (lift mode a b (above_zero (g a b))))) = simp pos_sumℕ in
       ap (λ x. lower_of d mode g +ℤ x) t
@@ -77,14 +77,14 @@ part_lift : (mode : Mode) (a b n : ℕ) → 1 ≤ a + b → lift mode a b n ≡ 
 part_lift mode a b n h = rw (ne_eqb (a + b) 0 (λ e. omega arith), le-leb 1 (a + b) h)
 
 module _ (d : ℕ) (o : 1 ≤ d) (mode : Mode) (n : ℕ → ℕ → ℕ) where
-  lift-sum : triangle d (λ a b. lift mode a b (n a b)) ≡ triangle d (λ a b. part mode a b (n a b)) + 2 * n 0 0
-  lift-sum =
+  lift_sum : triangle d (λ a b. lift mode a b (n a b)) ≡ triangle d (λ a b. part mode a b (n a b)) + 2 * n 0 0
+  lift_sum =
       let p = apart_same d o {f = λ a b. lift mode a b (n a b)} {g = λ a b. part mode a b (n a b)} (λ a b h. part_lift mode a b (n a b) (omega arith)) in
       let q = part_lift mode 0 1 (n 0 1) (omega arith) in let r = part_lift mode 1 0 (n 1 0) (omega arith) in omega arith
 
   -- and the centre has room beside it
-  part-sum : (m : ℕ → ℕ → ℕ) → ((a b : ℕ) → n a b ≤ m a b) → triangle d (λ a b. part mode a b (n a b)) + m 0 0 ≤ triangle d m
-  part-sum m h =
+  part_sum : (m : ℕ → ℕ → ℕ) → ((a b : ℕ) → n a b ≤ m a b) → triangle d (λ a b. part mode a b (n a b)) + m 0 0 ≤ triangle d m
+  part_sum m h =
       let l : (a b : ℕ) → part mode a b (n a b) ≤ m a b = λ a b. Nat.le_trans (part_le mode a b (n a b)) (h a b) in
       let p = apart_mono d o {f = λ a b. part mode a b (n a b)} {g = m} (λ a b k. l a b) in let q = l 0 1 in let r = l 1 0 in omega arith
 
@@ -102,34 +102,34 @@ below_above (negsuc n) = refl
 
 module _ (d : ℕ) (o : 1 ≤ d) (mode : Mode) where
   module _ (g : ℕ → ℕ → ℤ) (s : ℕ) (e : triangle d (λ a b. nat_abs (g a b)) ≡ nat_abs (g 0 0) + s) where
-    fall-le : triangle d (λ a b. part mode a b (above_zero (g a b))) ≤ s
-    fall-le = let p = part-sum d o mode (λ a b. above_zero (g a b)) (λ a b. nat_abs (g a b)) (λ a b. above_le (g a b)) in omega arith
+    fall_le : triangle d (λ a b. part mode a b (above_zero (g a b))) ≤ s
+    fall_le = let p = part_sum d o mode (λ a b. above_zero (g a b)) (λ a b. nat_abs (g a b)) (λ a b. above_le (g a b)) in omega arith
 
-    lower-part : lower_of d mode g ≡ g 0 0 -ℤ pos (s - triangle d (λ a b. part mode a b (above_zero (g a b))))
-    lower-part =
+    lower_part : lower_of d mode g ≡ g 0 0 -ℤ pos (s - triangle d (λ a b. part mode a b (above_zero (g a b))))
+    lower_part =
         let k = triangle d (λ a b. part mode a b (above_zero (g a b))) in
-        settled (lower_of d mode g) (g 0 0) (nat_abs (g 0 0)) k s fall-le
-        (ap (λ n. lower_of d mode g +ℤ pos n) (sym e) ∙ lower-lift d mode g ∙ ap pos (lift-sum d o mode (λ a b. above_zero (g a b)) ∙ Nat.add_comm k (2 * above_zero (g 0 0))) ∙ ap (λ x. x +ℤ pos k) (sym (twice (g 0 0))))
+        settled (lower_of d mode g) (g 0 0) (nat_abs (g 0 0)) k s fall_le
+        (ap (λ n. lower_of d mode g +ℤ pos n) (sym e) ∙ lower_lift d mode g ∙ ap pos (lift_sum d o mode (λ a b. above_zero (g a b)) ∙ Nat.add_comm k (2 * above_zero (g 0 0))) ∙ ap (λ x. x +ℤ pos k) (sym (twice (g 0 0))))
 
   -- the upper bound is the lower bound of -g with the other sign
   module _ (g : ℕ → ℕ → ℤ) (s : ℕ) (e : triangle d (λ a b. nat_abs (g a b)) ≡ nat_abs (g 0 0) + s) where
     abbrev turned : ℕ → ℕ → ℤ
     turned a b = neg_ℤ (g a b)
 
-    turned-size : triangle d (λ a b. nat_abs (turned a b)) ≡ nat_abs (turned 0 0) + s
-    turned-size = simp nat_abs_neg_ℤ e
+    turned_size : triangle d (λ a b. nat_abs (turned a b)) ≡ nat_abs (turned 0 0) + s
+    turned_size = simp nat_abs_neg_ℤ e
 
-    turned-part : triangle d (λ a b. part mode a b (above_zero (turned a b))) ≡ triangle d (λ a b. part mode a b (below_zero (g a b)))
-    turned-part = sumℕ_cong (0 ⋯ d) (λ a m. sumℕ_cong (0 ⋯ (d - a)) (λ b n. ap (part mode a b) (sym (below_above (g a b)))))
+    turned_part : triangle d (λ a b. part mode a b (above_zero (turned a b))) ≡ triangle d (λ a b. part mode a b (below_zero (g a b)))
+    turned_part = sumℕ_cong (0 ⋯ d) (λ a m. sumℕ_cong (0 ⋯ (d - a)) (λ b n. ap (part mode a b) (sym (below_above (g a b)))))
 
-    rise-le : triangle d (λ a b. part mode a b (below_zero (g a b))) ≤ s
-    rise-le = let h = fall-le turned s turned-size in let p = turned-part in omega arith
+    rise_le : triangle d (λ a b. part mode a b (below_zero (g a b))) ≤ s
+    rise_le = let h = fall_le turned s turned_size in let p = turned_part in omega arith
 
-    upper-part : upper_of d mode g ≡ g 0 0 +ℤ pos (s - triangle d (λ a b. part mode a b (below_zero (g a b))))
-    upper-part =
+    upper_part : upper_of d mode g ≡ g 0 0 +ℤ pos (s - triangle d (λ a b. part mode a b (below_zero (g a b))))
+    upper_part =
         let k = triangle d (λ a b. part mode a b (below_zero (g a b))) in
         let u : upper_of d mode g ≡ neg_ℤ (lower_of d mode turned) = sum_cong (0 ⋯ d) (λ a m. sum_cong (0 ⋯ (d - a)) (λ b n. high_low mode (a ∷ b ∷ []) (g a b))) ∙ simp (← neg_ℤ_sum) in
-        u ∙ ap neg_ℤ (lower-part turned s turned-size ∙ ap (λ n. turned 0 0 -ℤ pos (s - n)) turned-part) ∙ ring (g 0 0 ∷ pos (s - k) ∷ []) (λ x y. ⊝ (⊝ x ⊖ y) ≐ x ⊕ y) tt
+        u ∙ ap neg_ℤ (lower_part turned s turned_size ∙ ap (λ n. turned 0 0 -ℤ pos (s - n)) turned_part) ∙ ring (g 0 0 ∷ pos (s - k) ∷ []) (λ x y. ⊝ (⊝ x ⊖ y) ≐ x ⊕ y) tt
 
 -- ---- what is spared, by the number of the mode
 module _ (places : List ℤ) (d : ℕ) where
@@ -140,24 +140,24 @@ module _ (places : List ℤ) (d : ℕ) where
       none true n = refl
       none false n = refl
 
-  fall-part : (m : ℕ) → (spare_in m places d).fall ≡ triangle d (λ a b. part (mode_of m) a b (above_zero (held places d a b)))
-  fall-part zero = refl
-  fall-part (suc m) = sym (no_part (λ a b. above_zero (held places d a b)))
+  fall_part : (m : ℕ) → (spare_in m places d).fall ≡ triangle d (λ a b. part (mode_of m) a b (above_zero (held places d a b)))
+  fall_part zero = refl
+  fall_part (suc m) = sym (no_part (λ a b. above_zero (held places d a b)))
 
-  rise-part : (m : ℕ) → (spare_in m places d).rise ≡ triangle d (λ a b. part (mode_of m) a b (below_zero (held places d a b)))
-  rise-part zero = refl
-  rise-part (suc m) = sym (no_part (λ a b. below_zero (held places d a b)))
+  rise_part : (m : ℕ) → (spare_in m places d).rise ≡ triangle d (λ a b. part (mode_of m) a b (below_zero (held places d a b)))
+  rise_part zero = refl
+  rise_part (suc m) = sym (no_part (λ a b. below_zero (held places d a b)))
 
 -- ---- where the first three places of a table stand
 module _ (places : List ℤ) (d : ℕ) where
-  held-00 : held places d 0 0 ≡ at places 0
-  held-00 = ap (at places) (let z = row_start_zero d in omega arith)
+  held_00 : held places d 0 0 ≡ at places 0
+  held_00 = ap (at places) (let z = row_start_zero d in omega arith)
 
-  held-01 : held places d 0 1 ≡ at places 1
-  held-01 = ap (at places) (let z = row_start_zero d in omega arith)
+  held_01 : held places d 0 1 ≡ at places 1
+  held_01 = ap (at places) (let z = row_start_zero d in omega arith)
 
-  held-10 : held places d 1 0 ≡ at places (d + 1)
-  held-10 = ap (at places) (let z = row_start_zero d in let n = row_start_next d 0 in omega arith)
+  held_10 : held places d 1 0 ≡ at places (d + 1)
+  held_10 = ap (at places) (let z = row_start_zero d in let n = row_start_next d 0 in omega arith)
 
 -- ---- a light table: its sizes, its bend and its bounds
 abbrev pub count : ℕ → ℕ
@@ -167,13 +167,13 @@ bent_far : (a b : ℕ) (g : ℤ) → 2 ≤ a + b → bent (a ∷ b ∷ []) g ≡
 bent_far a b g h = bent_plane a b g ∙ rw (le-leb 2 (a + b) h)
 
 module _ {d : ℕ} {places : List ℤ} (o : 1 ≤ d) (l : Light d places) where
-  all-sizes : triangle d (λ a b. nat_abs (held places d a b)) ≡ nat_abs (held places d 0 0) + sizes_of places (count d)
-  all-sizes =
+  all_sizes : triangle d (λ a b. nat_abs (held places d a b)) ≡ nat_abs (held places d 0 0) + sizes_of places (count d)
+  all_sizes =
       let p = place_all d 0 0 (omega arith) in let r = row_start_all d in
-      sym (flat d (λ n. nat_abs (at places n))) ∙ sumℕ_span_first 0 (count d) (λ n. nat_abs (at places n)) (omega arith) ∙ ap (λ x. nat_abs x + sizes_of places (count d)) (sym (held-00 places d))
+      sym (flat d (λ n. nat_abs (at places n))) ∙ sumℕ_span_first 0 (count d) (λ n. nat_abs (at places n)) (omega arith) ∙ ap (λ x. nat_abs x + sizes_of places (count d)) (sym (held_00 places d))
 
   pub room : nat_abs (at places 0) + sizes_of places (count d) < 2 ^ 62
-  room = let p = all-sizes in let q = ap nat_abs (held-00 places d) in let h = l.light in omega arith
+  room = let p = all_sizes in let q = ap nat_abs (held_00 places d) in let h = l.light in omega arith
 
   pub sizable : Sizable places (count d)
   sizable = record { inside = let s = l.small in let p = places_45 d s in let r = row_start_all d in omega arith; light = let r = room in omega arith }
@@ -183,27 +183,27 @@ module _ {d : ℕ} {places : List ℤ} (o : 1 ≤ d) (l : Light d places) where
       let g = held places d in
       let p = apart_same d o {f = λ a b. bent (a ∷ b ∷ []) (g a b)} {g = λ a b. nat_abs (g a b)} (λ a b h. bent_far a b (g a b) h) in
       let x = bent_plane 0 0 (g 0 0) in let y = bent_plane 0 1 (g 0 1) in let z = bent_plane 1 0 (g 1 0) in
-      let s = all-sizes in let u = ap nat_abs (held-01 places d) in let v = ap nat_abs (held-10 places d) in omega arith
+      let s = all_sizes in let u = ap nat_abs (held_01 places d) in let v = ap nat_abs (held_10 places d) in omega arith
 
   -- with t the sizes and u what is spared
   module _ (m : ℕ) {t : ℕ} {u : Spare} (e : t ≡ sizes_of places (count d)) (q : u ≡ spare_in m places d) where
-    fall-is : u.fall ≡ triangle d (λ a b. part (mode_of m) a b (above_zero (held places d a b)))
-    fall-is = ap (λ r. r.fall) q ∙ fall-part places d m
+    fall_is : u.fall ≡ triangle d (λ a b. part (mode_of m) a b (above_zero (held places d a b)))
+    fall_is = ap (λ r. r.fall) q ∙ fall_part places d m
 
-    rise-is : u.rise ≡ triangle d (λ a b. part (mode_of m) a b (below_zero (held places d a b)))
-    rise-is = ap (λ r. r.rise) q ∙ rise-part places d m
+    rise_is : u.rise ≡ triangle d (λ a b. part (mode_of m) a b (below_zero (held places d a b)))
+    rise_is = ap (λ r. r.rise) q ∙ rise_part places d m
 
     pub fall_within : u.fall ≤ t
-    fall_within = rw (fall-is, e) (fall-le d o (mode_of m) (held places d) (sizes_of places (count d)) all-sizes)
+    fall_within = rw (fall_is, e) (fall_le d o (mode_of m) (held places d) (sizes_of places (count d)) all_sizes)
 
     pub rise_within : u.rise ≤ t
-    rise_within = rw (rise-is, e) (rise-le d o (mode_of m) (held places d) (sizes_of places (count d)) all-sizes)
+    rise_within = rw (rise_is, e) (rise_le d o (mode_of m) (held places d) (sizes_of places (count d)) all_sizes)
 
     pub lower_is : at places 0 -ℤ pos (t - u.fall) ≡ lower_of d (mode_of m) (held places d)
-    lower_is = rw (← (held-00 places d), fall-is, e) (sym (lower-part d o (mode_of m) (held places d) (sizes_of places (count d)) all-sizes))
+    lower_is = rw (← (held_00 places d), fall_is, e) (sym (lower_part d o (mode_of m) (held places d) (sizes_of places (count d)) all_sizes))
 
     pub upper_is : at places 0 +ℤ pos (t - u.rise) ≡ upper_of d (mode_of m) (held places d)
-    upper_is = rw (← (held-00 places d), rise-is, e) (sym (upper-part d o (mode_of m) (held places d) (sizes_of places (count d)) all-sizes))
+    upper_is = rw (← (held_00 places d), rise_is, e) (sym (upper_part d o (mode_of m) (held places d) (sizes_of places (count d)) all_sizes))
 
   -- on the machine: a number up to the sizes, alone and beside the centre
   module _ {n : ℕ} (h : n ≤ sizes_of places (count d)) where
@@ -228,6 +228,6 @@ pub one_place : (places : List ℤ) (mode : Mode) → ranged (at places 0) (at p
 unfolding sumℕ ◌⋯◌ span run
 one_place places mode =
     let g = held places 0 in
-    ap (λ x. ranged x x 0) (sym (held-00 places 0))
+    ap (λ x. ranged x x 0) (sym (held_00 places 0))
     ∙ sym (ap₂ (λ l u. ranged l u (bend_of 0 g)) (one_sum (λ a b. low mode (a ∷ b ∷ []) (g a b)) ∙ low_plane mode 0 0 (g 0 0)) (one_sum (λ a b. high mode (a ∷ b ∷ []) (g a b)) ∙ high_plane mode 0 0 (g 0 0))
     ∙ ap (ranged (g 0 0) (g 0 0)) (rw (bent_plane 0 0 (g 0 0))))

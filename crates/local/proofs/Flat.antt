@@ -51,8 +51,8 @@ module _ (d : ℕ) (o : 1 ≤ d) where
       let p = sumℕ_span_first 0 (suc (d - 0)) (f 0) (omega arith) in let q = sumℕ_span_first 1 (suc (d - 0)) (f 0) (omega arith) in let r = sumℕ_span_first 0 (suc (d - 1)) (f 1) (omega arith) in
       omega arith
 
-  rest-mono : {f g : ℕ → ℕ → ℕ} → ((a b : ℕ) → 2 ≤ a + b → f a b ≤ g a b) → rest d f ≤ rest d g
-  rest-mono {f} {g} h =
+  rest_mono : {f g : ℕ → ℕ → ℕ} → ((a b : ℕ) → 2 ≤ a + b → f a b ≤ g a b) → rest d f ≤ rest d g
+  rest_mono {f} {g} h =
       let a = sumℕ_mono (span 2 (suc (d - 0))) {f = f 0} {g = g 0} (λ b m. let (l, k) = span_member 2 (suc (d - 0)) m in h 0 b (omega arith)) in
       let b = sumℕ_mono (span 1 (suc (d - 1))) {f = f 1} {g = g 1} (λ b m. let (l, k) = span_member 1 (suc (d - 1)) m in h 1 b (omega arith)) in
       let c = sumℕ_mono (span 2 (suc d)) {f = λ a. sumℕ (0 ⋯ (d - a)) (f a)} {g = λ a. sumℕ (0 ⋯ (d - a)) (g a)} (λ a m. let (l, k) = span_member 2 (suc d) m in sumℕ_mono (0 ⋯ (d - a)) (λ b n. h a b (omega arith))) in
@@ -60,7 +60,7 @@ module _ (d : ℕ) (o : 1 ≤ d) where
 
   -- two triangles compared at the other places, and two that are the same there
   pub apart_mono : {f g : ℕ → ℕ → ℕ} → ((a b : ℕ) → 2 ≤ a + b → f a b ≤ g a b) → triangle d f + (g 0 0 + g 0 1 + g 1 0) ≤ triangle d g + (f 0 0 + f 0 1 + f 1 0)
-  apart_mono {f} {g} h = let a = apart f in let b = apart g in let m = rest-mono h in omega arith
+  apart_mono {f} {g} h = let a = apart f in let b = apart g in let m = rest_mono h in omega arith
 
   pub apart_same : {f g : ℕ → ℕ → ℕ} → ((a b : ℕ) → 2 ≤ a + b → f a b ≡ g a b) → triangle d f + (g 0 0 + g 0 1 + g 1 0) ≡ triangle d g + (f 0 0 + f 0 1 + f 1 0)
   apart_same h = let p = apart_mono (λ a b l. Nat.le_of_eq (h a b l)) in let q = apart_mono (λ a b l. Nat.le_of_eq (sym (h a b l))) in omega arith

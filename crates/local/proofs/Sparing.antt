@@ -83,15 +83,15 @@ module _ (a b n : ℕ) {from : ℕ} (f : from ≡ 2 - a) (v : a % 2 ≡ 0) where
   from_is : b % 2 ≡ 0 → leb from b ≡ leb 1 (a + b)
   from_is e = same_test (leb from b) (leb 1 (a + b)) (λ t. le-leb 1 (a + b) (let l = leb-true from b t in omega arith)) (λ t. le-leb from b (let l = leb-true 1 (a + b) t in omega arith))
 
-  spares-is : even_from from b n ≡ spares a b n
-  spares-is = rw (eq-eqb (a % 2) 0 v) (elim (dec_le (b % 2) 0) [
+  spares_is : even_from from b n ≡ spares a b n
+  spares_is = rw (eq-eqb (a % 2) 0 v) (elim (dec_le (b % 2) 0) [
     | yes l ↦ let e : b % 2 ≡ 0 = omega arith in rw (from_is e)
     | no l ↦ rw (ne_eqb (b % 2) 0 (omega arith)) (none (leb from b) n ∙ sym (none (leb 1 (a + b)) n))
   ])
 
 module _ (h : ℤ → ℕ) (places : List ℤ) (d : ℕ) where
   rows_at : (a : ℕ) {first from n : ℕ} → first ≡ row_start d a → from ≡ 2 - a → n ≡ d - a → a % 2 ≡ 0 → sumℕ (0 ⋯ n) (evens h (row_of places first) from) ≡ rows h places d a
-  rows_at a e f g v = rw (e, g) (sumℕ_cong (0 ⋯ (d - a)) (λ b m. spares-is a b (h (held places d a b)) f v))
+  rows_at a e f g v = rw (e, g) (sumℕ_cong (0 ⋯ (d - a)) (λ b m. spares_is a b (h (held places d a b)) f v))
 
   -- an odd row spares nothing
   pub rows_only : EvenOnly (rows h places d)

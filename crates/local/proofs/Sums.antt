@@ -7,7 +7,7 @@ use native.Mathlib.Omega.{arith}
 use lib.IntN.{pos, nat_abs}
 use Rattle.algebra.specs.Sum.{sumℕ, span, ◌⋯◌}
 use Rattle.algebra.proofs.Sum.{pos_sumℕ}
-use Rattle.algebra.proofs.Run.{sumℕ_span_none, sumℕ_span_first, sum-⋯_from}
+use Rattle.algebra.proofs.Run.{sumℕ_span_none, sumℕ_span_first, sum_⋯_from}
 use Rattle.local.specs.declared.Spare.{Spare}
 
 -- of the terms f(s), .., f(n-1) those before k are added
@@ -21,7 +21,7 @@ added_start f s n = record { whole = omega arith }
 added_from : (f : ℕ → ℕ) (k n : ℕ) → ((i : ℕ) → i < k → f i ≡ 0) → Added f 0 (suc n) k 0
 unfolding ◌⋯◌
 added_from f k n z =
-    let e : sumℕ (0 ⋯ n) f ≡ sumℕ (k ⋯ n) f = ap nat_abs (pos_sumℕ (0 ⋯ n) f ∙ sum-⋯_from k n (λ i. pos (f i)) (λ i l. ap pos (z i l)) ∙ sym (pos_sumℕ (k ⋯ n) f)) in
+    let e : sumℕ (0 ⋯ n) f ≡ sumℕ (k ⋯ n) f = ap nat_abs (pos_sumℕ (0 ⋯ n) f ∙ sum_⋯_from k n (λ i. pos (f i)) (λ i l. ap pos (z i l)) ∙ sym (pos_sumℕ (k ⋯ n) f)) in
     record { whole = omega arith }
 
 -- one term apart, and one of zero passed over
@@ -50,8 +50,8 @@ module _ {f : ℕ → ℕ} {s n k done : ℕ} (h : Added f s n k done) where
     added_next = let p = one_apart f {j = k + 1} n (omega arith) l in record { whole = omega arith }
 
     -- two places on
-    added-two : k % 2 ≡ 0 → EvenOnly f → Added f s n (k + 2) (done + t)
-    added-two even odd =
+    added_two : k % 2 ≡ 0 → EvenOnly f → Added f s n (k + 2) (done + t)
+    added_two even odd =
         let p = added_next.whole in let q = one_over f {k = k + 1} {j = k + 2} n (omega arith) (odd (k + 1) (omega arith)) in record { whole = omega arith }
 
 -- ---- two sums over 0, .., n that go on by two places, where the terms at odd places are zero
@@ -70,7 +70,7 @@ module _ {f g : ℕ → ℕ} {n k x y : ℕ} (h : Pair f g n k x y) where
   pair_right l e = added_room h.right (omega arith) e
 
   pub pair_next : EvenOnly f → EvenOnly g → k ≤ n → {t u : ℕ} → t ≡ f k → u ≡ g k → Pair f g n (k + 2) (x + t) (y + u)
-  pair_next o p l d e = record { even = omega arith; left = added-two h.left (omega arith) d h.even o; right = added-two h.right (omega arith) e h.even p }
+  pair_next o p l d e = record { even = omega arith; left = added_two h.left (omega arith) d h.even o; right = added_two h.right (omega arith) e h.even p }
 
   pub pair_end : n < k → ◌≡◌ {A = Spare} (record { fall = x; rise = y }) (record { fall = sumℕ (0 ⋯ n) f; rise = sumℕ (0 ⋯ n) g })
   unfolding ◌⋯◌

@@ -23,7 +23,7 @@ fits64 z h = record { sfits = Nat.lt_of_le_of_lt (mag_nat_abs z) h }
 
 -- an element that was read, by what the read tells of it
 pub read64 : (z : ℤ) → mag z < 2 ^ 63 → to_z w64 (of_z w64 z) ≡ z
-read64 z h = to_z-of_z (record { sfits = h })
+read64 z h = to_z-of_z {w = w64} (record { sfits = h })
 
 -- ---- sums and products
 pub fits_total : (a b : ℤ) → nat_abs a + nat_abs b < 2 ^ 63 → SFits w64 (a +ℤ b)
@@ -46,10 +46,10 @@ module _ (x u y h : ℤ) (room : Room x u y h) where
 
 -- ---- the size of z is 0 - z where z is below 0, and z itself elsewhere
 pub turned_back : (z : ℤ) → lt_z z (pos 0) ≡ true → pos 0 -ℤ z ≡ pos (nat_abs z)
-turned_back (pos n) e = let z : ◌≡◌ {A = ℕ} 0 1 = absurd (ltb-none n e) in absurd (omega arith)
+turned_back (pos n) e = let z : ◌≡◌ {A = ℕ} 0 1 = absurd (ltb_none n e) in absurd (omega arith)
   where
-    ltb-none : (n : ℕ) → ltb n 0 ≡ true → ⊥
-    ltb-none n e = let h = ltb-true n 0 e in omega arith
+    ltb_none : (n : ℕ) → ltb n 0 ≡ true → ⊥
+    ltb_none n e = let h = ltb-true n 0 e in omega arith
 turned_back (negsuc n) e = ap pos (Nat.zero-add (suc n))
 
 pub not_below : (z : ℤ) → lt_z z (pos 0) ≡ false → pos (nat_abs z) ≡ z

@@ -1,5 +1,7 @@
 // Whole numbers on the machine: sums of two products, sizes, and arithmetic with a ceiling.
 // An inner crate: what its functions require, every caller proves.
+#![tactic(auto)]
+
 ghost use Rattle.std.specs.Prelude.{◌≡◌, ◌+◌, ◌*◌, ◌^◌, ◌≤◌, ◌<◌, min, max, pos, ◌+ℤ◌, ◌*ℤ◌, nat_abs};
 ghost use Rattle.numbers.specs.Room.{Room};
 

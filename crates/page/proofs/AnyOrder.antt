@@ -1,4 +1,4 @@
--- Terms may come in any order: two lines of a well-formed text exchanged.
+-- Terms may come in any order: two lines of a well_formed text exchanged.
 use mathlib.Core.Path.{◌≡◌, refl, sym, ◌∙◌, ap}
 use mathlib.Core.Bool.{Bool, true, false, ◌||◌, cond, false≢true}
 use mathlib.Core.List.{List, [], ◌∷◌, ◌++◌}
@@ -10,7 +10,7 @@ use lib.IntN.{ℤ}
 use Rattle.algebra.proofs.Choice.{same_test}
 use Rattle.page.specs.Sheet.{sheet_of}
 use Rattle.page.specs.SheetLine.{Line, worths, Fault, good}
-use Rattle.page.specs.SheetText.{Term, term_of, is_term, is_named, coefficient_of, Said, Text, bad-line, well-formed, with_terms, with_line, term_numbers, terms_from, sheet_in}
+use Rattle.page.specs.SheetText.{Term, term_of, is_term, is_named, coefficient_of, Said, Text, bad_line, well_formed, with_terms, with_line, term_numbers, terms_from, sheet_in}
 use Rattle.page.specs.ReadFacts.{SameSheet, AnyOrder}
 use Rattle.page.proofs.Rows.{or_both}
 use Rattle.page.proofs.Order.{order_cong}
@@ -51,11 +51,11 @@ same_two s t ts h = record { named = λ i j. either (is_term i j t) (is_term i j
 same_next : (t : Term) {ts us : List Term} → SameTerms ts us → SameTerms (t ∷ ts) (t ∷ us)
 same_next t s = record { named = λ i j. simp s.named; given = λ i j. simp s.given }
 
--- ---- where the one text is well-formed, so is the other, with the same sheet and mode
+-- ---- where the one text is well_formed, so is the other, with the same sheet and mode
 abbrev Alike : Text → Text → Type 0
-Alike t u = (v : Said) → t ≡ well-formed v → SameSheet v u
+Alike t u = (v : Said) → t ≡ well_formed v → SameSheet v u
 
-bad_alike : (n : ℕ) (f : Fault) (u : Text) → Alike (bad-line n f) u
+bad_alike : (n : ℕ) (f : Fault) (u : Text) → Alike (bad_line n f) u
 bad_alike n f u v e = let z : ◌≡◌ {A = ℕ} 0 1 = cc in absurd (omega arith)
 
 -- a term's line in the one, and in the other a line that is good after the terms before it there
@@ -66,7 +66,7 @@ held : (n d : ℕ) (ts : List Term) (l : Line) (rest : List ℤ → Text) (t : T
 held n d ts l rest t e h = rw e h
 
 -- ---- the same terms, and the same lines after them
-end_same : (w : Said) (ts us : List Term) → SameTerms ts us → Alike (well-formed (with_terms w ts)) (well-formed (with_terms w us))
+end_same : (w : Said) (ts us : List Term) → SameTerms ts us → Alike (well_formed (with_terms w ts)) (well_formed (with_terms w us))
 end_same w ts us s v e =
     let z : with_terms w ts ≡ v = cc in
     let c = order_cong w.d (λ i j _. s.given i j) in
@@ -87,9 +87,9 @@ module _ (a b : Line) (more : List Line) where
   t = term_of (worths b)
 
   -- neither term names the place of the other, so both are good in the other order too
-  two-lines : (n : ℕ) (w : Said) → Alike (terms_from n w (a ∷ b ∷ more)) (terms_from n w (b ∷ a ∷ more))
+  two_lines : (n : ℕ) (w : Said) → Alike (terms_from n w (a ∷ b ∷ more)) (terms_from n w (b ∷ a ∷ more))
   unfolding terms_from
-  two-lines n w =
+  two_lines n w =
       let ts = w.terms in
       term_alike n w.d ts a _ _ (λ x. term_alike (n + 1) w.d (s ∷ ts) b _ _ (λ y.
       let (e, k) = or_both (is_term t.i t.j s) (is_named t.i t.j ts) y.new in
@@ -97,10 +97,10 @@ module _ (a b : Line) (more : List Line) where
       let a_second : term_numbers w.d (t ∷ ts) a ≡ good (worths a) = only_its_place w.d a (t ∷ ts) ts (ap (λ c. c || is_named s.i s.j ts) (sym (term_sym s t) ∙ e)) ∙ x.numbers in
       held n w.d ts b _ _ b-first (held (n + 1) w.d (t ∷ ts) a _ _ a_second (after_same more (n + 1 + 1) w (t ∷ s ∷ ts) (s ∷ t ∷ ts) (same_two s t ts e)))))
 
-  terms-alike : (ls : List Line) (n : ℕ) (w : Said) → Alike (terms_from n w (ls ++ (a ∷ b ∷ more))) (terms_from n w (ls ++ (b ∷ a ∷ more)))
+  terms_alike : (ls : List Line) (n : ℕ) (w : Said) → Alike (terms_from n w (ls ++ (a ∷ b ∷ more))) (terms_from n w (ls ++ (b ∷ a ∷ more)))
   unfolding terms_from
-  terms-alike [] n w = two-lines n w
-  terms-alike (l ∷ ls) n w = term_alike n w.d w.terms l _ _ (λ x. held n w.d w.terms l _ _ x.numbers (terms-alike ls (n + 1) (with_terms w (term_of (worths l) ∷ w.terms))))
+  terms_alike [] n w = two_lines n w
+  terms_alike (l ∷ ls) n w = term_alike n w.d w.terms l _ _ (λ x. held n w.d w.terms l _ _ x.numbers (terms_alike ls (n + 1) (with_terms w (term_of (worths l) ∷ w.terms))))
 
 pub any_order : AnyOrder
-any_order ls more a b v h e = text_both Alike (λ n f. bad_alike n f _) (a ∷ b ∷ more) (b ∷ a ∷ more) ls h (terms-alike a b more) v e
+any_order ls more a b v h e = text_both Alike (λ n f. bad_alike n f _) (a ∷ b ∷ more) (b ∷ a ∷ more) ls h (terms_alike a b more) v e

@@ -56,11 +56,11 @@ module _ (S : Sheet) (j p : ℕ) (level : j ≤ S.k) (column : p < 2 ^ j) where
       let e : j + (S.s + S.k - j) ≡ S.k + S.s = omega arith in let f : S.k + 1 + S.s ≡ 1 + (S.k + S.s) = omega arith in
       Nat.mul_left_comm (2 ^ j) 2 H ∙ ap (λ n. 2 * n) (sym (pow-add 2 j (S.s + S.k - j)) ∙ ap (λ n. 2 ^ n) e) ∙ sym (pow-add 2 1 (S.k + S.s)) ∙ ap (λ n. 2 ^ n) (sym f) ∙ pow-add 2 (S.k + 1) S.s
 
-  inside-low : H ≤ (2 * p + 1) * H
-  inside-low = Nat.le_trans (Nat.le_of_eq (sym (Nat.one-mul H))) (Nat.mul-le-mul_right H (omega arith))
+  inside_low : H ≤ (2 * p + 1) * H
+  inside_low = Nat.le_trans (Nat.le_of_eq (sym (Nat.one-mul H))) (Nat.mul-le-mul_right H (omega arith))
 
-  inside-high : (2 * p + 1) * H + H ≤ 2 ^ (S.k + 1) * 2 ^ S.s
-  inside-high = rw (← cells_make) (Nat.le_trans (Nat.le_of_eq grouped) (Nat.mul-le-mul_right (2 * H) next))
+  inside_high : (2 * p + 1) * H + H ≤ 2 ^ (S.k + 1) * 2 ^ S.s
+  inside_high = rw (← cells_make) (Nat.le_trans (Nat.le_of_eq grouped) (Nat.mul-le-mul_right (2 * H) next))
     where
       grouped : (2 * p + 1) * H + H ≡ (p + 1) * (2 * H)
       grouped = ap nat_abs (ring (pos p ∷ pos H ∷ []) (λ p h. (# 2 ⊗ p ⊕ # 1) ⊗ h ⊕ h ≐ (p ⊕ # 1) ⊗ (# 2 ⊗ h)) tt)
@@ -69,7 +69,7 @@ module _ (S : Sheet) (j p : ℕ) (level : j ≤ S.k) (column : p < 2 ^ j) where
       next = omega arith
 
   pub cell_limit : (z : ℤ) (r : ℕ) → nat_abs z ≤ r → nat_abs (z +ℤ pos (2 ^ S.s)) ≤ r → nat_abs (pos (2 ^ (S.k + 1)) *ℤ z +ℤ pos ((2 * p + 1) * H)) + H ≤ 2 ^ (S.k + 1) * r
-  cell_limit z r near far = interval_limit z S.s (2 ^ (S.k + 1)) r near far ((2 * p + 1) * H) H inside-low inside-high
+  cell_limit z r near far = interval_limit z S.s (2 ^ (S.k + 1)) r near far ((2 * p + 1) * H) H inside_low inside_high
 
 -- ---- so the centre and the half_side are at most 2^(k+1) Rx across, and 2^(k+1) Ry along
 module _ (S : Sheet) (j p q : ℕ) (c : IsCell S.k j p q) where

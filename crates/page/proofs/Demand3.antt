@@ -38,8 +38,8 @@ module _ (S : Sheet) (j p q : ℕ) where
   pub in_box : {M N : ℤ} {Q : ℕ} → InCell S j p q M N Q → InBox (polynomial S) (centre S j p q) (half_side S j) (pair M N) Q
   in_box {M} {N} {Q} c = (in_plane S.d (2 ^ (S.k + 1)) (A S) (U0 S j p) (V0 S j q) (half_side S j) M N Q).0 (omega (arith, c.across), omega (arith, c.along))
 
-  from-box : {M N : ℤ} {Q : ℕ} → InBox (polynomial S) (centre S j p q) (half_side S j) (pair M N) Q → InCell S j p q M N Q
-  from-box {M} {N} {Q} b = let h = (in_plane S.d (2 ^ (S.k + 1)) (A S) (U0 S j p) (V0 S j q) (half_side S j) M N Q).1 b in record { across = h.0; along = h.1 }
+  from_box : {M N : ℤ} {Q : ℕ} → InBox (polynomial S) (centre S j p q) (half_side S j) (pair M N) Q → InCell S j p q M N Q
+  from_box {M} {N} {Q} b = let h = (in_plane S.d (2 ^ (S.k + 1)) (A S) (U0 S j p) (V0 S j q) (half_side S j) M N Q).1 b in record { across = h.0; along = h.1 }
 
 -- ---- the verdict tells the bounds' signs
 abbrev Told : ℤ → ℤ → Verdict → Type 0
@@ -94,7 +94,7 @@ open_meets S mode j p q l u e =
       N = m.x 1;
       Q = m.Q;
       positive = m.positive;
-      inside = from-box S j p q (both (λ v. nat_abs (pair (m.x 0) (m.x 1) v -ℤ pos m.Q *ℤ centre S j p q v) ≤ m.Q * half_side S j) (m.inside 0 (omega arith)) (m.inside 1 (omega arith)));
+      inside = from_box S j p q (both (λ v. nat_abs (pair (m.x 0) (m.x 1) v -ℤ pos m.Q *ℤ centre S j p q v) ≤ m.Q * half_side S j) (m.inside 0 (omega arith)) (m.inside 1 (omega arith)));
       vanishes = value_is S (m.x 0) (m.x 1) m.Q ∙ sym (value_pair S.d (2 ^ (S.k + 1)) (A S) m.x m.Q) ∙ m.vanishes;
     }
 
@@ -106,44 +106,44 @@ module _ (S : Sheet) (j p q : ℕ) (c : IsCell S.k j p q) where
 
   module _ (a : Accepted S) where
     -- a coordinate within the limit of its axis fits
-    fits-limit : {r : ℕ} → r ≤ 2_097_152 → (u : ℤ) → nat_abs u ≤ 2 ^ (S.k + 1) * r → Fits64 u
-    fits-limit m u h = Nat.lt_of_le_of_lt (Nat.le_trans h (Nat.mul-le-mul scale_small m)) (omega arith)
+    fits_limit : {r : ℕ} → r ≤ 2_097_152 → (u : ℤ) → nat_abs u ≤ 2 ^ (S.k + 1) * r → Fits64 u
+    fits_limit m u h = Nat.lt_of_le_of_lt (Nat.le_trans h (Nat.mul-le-mul scale_small m)) (omega arith)
       where
         scale_small : 2 ^ (S.k + 1) ≤ 2 ^ 8
         scale_small = let d = a.ranges.depth in let e : S.k + 1 ≤ 8 = omega arith in pow_mono e
 
-    fits-u : (u : ℤ) → nat_abs u ≤ 2 ^ (S.k + 1) * Rx S → Fits64 u
-    fits-u = fits-limit (limits_small a.ranges).0
+    fits_u : (u : ℤ) → nat_abs u ≤ 2 ^ (S.k + 1) * Rx S → Fits64 u
+    fits_u = fits_limit (limits_small a.ranges).0
 
-    fits-v : (v : ℤ) → nat_abs v ≤ 2 ^ (S.k + 1) * Ry S → Fits64 v
-    fits-v = fits-limit (limits_small a.ranges).1
+    fits_v : (v : ℤ) → nat_abs v ≤ 2 ^ (S.k + 1) * Ry S → Fits64 v
+    fits_v = fits_limit (limits_small a.ranges).1
 
     -- what is at most the weight fits
-    fits-weight : (z : ℤ) → nat_abs z ≤ Weights.weight (polynomial S) (limits S) → Fits64 z
-    fits-weight z h = let w = weight_is S in let l = a.light in omega arith
+    fits_weight : (z : ℤ) → nat_abs z ≤ Weights.weight (polynomial S) (limits S) → Fits64 z
+    fits_weight z h = let w = weight_is S in let l = a.light in omega arith
 
-    minus-le : (u : ℤ) (h n : ℕ) → nat_abs u + h ≤ n → nat_abs (u -ℤ pos h) ≤ n
-    minus-le u h n l = let t = nat_abs-+ℤ u (neg_ℤ (pos h)) in let e = nat_abs_neg_ℤ (pos h) in omega arith
+    minus_le : (u : ℤ) (h n : ℕ) → nat_abs u + h ≤ n → nat_abs (u -ℤ pos h) ≤ n
+    minus_le u h n l = let t = nat_abs-+ℤ u (neg_ℤ (pos h)) in let e = nat_abs_neg_ℤ (pos h) in omega arith
 
-    plus-le : (u : ℤ) (h n : ℕ) → nat_abs u + h ≤ n → nat_abs (u +ℤ pos h) ≤ n
-    plus-le u h n l = let t = nat_abs-+ℤ u (pos h) in omega arith
+    plus_le : (u : ℤ) (h n : ℕ) → nat_abs u + h ≤ n → nat_abs (u +ℤ pos h) ≤ n
+    plus_le u h n l = let t = nat_abs-+ℤ u (pos h) in omega arith
 
-    cell-fits : (mode : Bounds.Mode) → CellFits S mode j p q
-    cell-fits mode =
+    cell_fits : (mode : Bounds.Mode) → CellFits S mode j p q
+    cell_fits mode =
         let P = polynomial S in let u = centre S j p q in let H = half_side S j in let r = limits S in let m = 2 ^ (S.k + 1) * Rx S in let n = 2 ^ (S.k + 1) * Ry S in
         let hu = limit_u S j p q c in let hv = limit_v S j p q c in
-        let left = fits-u (U0 S j p -ℤ pos H) (minus-le (U0 S j p) H m hu) in let right = fits-u (U0 S j p +ℤ pos H) (plus-le (U0 S j p) H m hu) in
-        let bottom = fits-v (V0 S j q -ℤ pos H) (minus-le (V0 S j q) H n hv) in let top = fits-v (V0 S j q +ℤ pos H) (plus-le (V0 S j q) H n hv) in
+        let left = fits_u (U0 S j p -ℤ pos H) (minus_le (U0 S j p) H m hu) in let right = fits_u (U0 S j p +ℤ pos H) (plus_le (U0 S j p) H m hu) in
+        let bottom = fits_v (V0 S j q -ℤ pos H) (minus_le (V0 S j q) H n hv) in let top = fits_v (V0 S j q +ℤ pos H) (plus_le (V0 S j q) H n hv) in
         record {
-          half = fits-u (pos H) (omega arith);
-          points = λ x y i. let b = box_limited P u H r (pair x y) limited (in_box S j p q i) in (fits-u x (b 0 (omega arith)), fits-v y (b 1 (omega arith)));
-          centre = (fits-u (U0 S j p) (omega arith), fits-v (V0 S j q) (omega arith));
+          half = fits_u (pos H) (omega arith);
+          points = λ x y i. let b = box_limited P u H r (pair x y) limited (in_box S j p q i) in (fits_u x (b 0 (omega arith)), fits_v y (b 1 (omega arith)));
+          centre = (fits_u (U0 S j p) (omega arith), fits_v (V0 S j q) (omega arith));
           edges = ((left, bottom), (right, bottom), (left, top), (right, top));
-          form = λ a b l. rw (G_is S j p q a b) (fits-weight (local P u H (a ∷ b ∷ [])) (local_size P u H r limited (a ∷ b ∷ []) (pair_index S.d (2 ^ (S.k + 1)) (A S) a b l)));
-          bounds = (rw (lower_is S j p q mode) (fits-weight (Bounds.lower P mode u H) (lower_size P u H r limited mode)), rw (upper_is S j p q mode) (fits-weight (Bounds.upper P mode u H) (upper_size P u H r limited mode)));
-          bends = rw (bend_is S j p q) (fits-weight (pos (Bounds.bend P u H)) (bend_size P u H r limited));
-          values = λ x y i. rw (F_is S x y) (fits-weight (value P (pair x y) 1) (value_in_box_size P u H r (pair x y) limited (in_box S j p q i)));
+          form = λ a b l. rw (G_is S j p q a b) (fits_weight (local P u H (a ∷ b ∷ [])) (local_size P u H r limited (a ∷ b ∷ []) (pair_index S.d (2 ^ (S.k + 1)) (A S) a b l)));
+          bounds = (rw (lower_is S j p q mode) (fits_weight (Bounds.lower P mode u H) (lower_size P u H r limited mode)), rw (upper_is S j p q mode) (fits_weight (Bounds.upper P mode u H) (upper_size P u H r limited mode)));
+          bends = rw (bend_is S j p q) (fits_weight (pos (Bounds.bend P u H)) (bend_size P u H r limited));
+          values = λ x y i. rw (F_is S x y) (fits_weight (value P (pair x y) 1) (value_in_box_size P u H r (pair x y) limited (in_box S j p q i)));
         }
 
 pub all_fit : AllFit
-all_fit S a mode j p q c = cell-fits S j p q c a mode
+all_fit S a mode j p q c = cell_fits S j p q c a mode

@@ -45,21 +45,21 @@ module _ (K n H : ℕ) (z u : ℤ) (twice : 2 * H ≡ K * n) where
   above_low : (pos K *ℤ z) ≤ℤ u → neg_ℤ (pos (1 * H)) ≤ℤ offset
   above_low h = ≤ℤ_by h (ring (u ∷ (pos K *ℤ z) ∷ pos H ∷ []) (λ u x h. u ⊖ # 1 ⊗ (x ⊕ # 1 ⊗ h) ⊖ ⊝ (# 1 ⊗ h) ≐ u ⊖ x) tt)
 
-  below-high : u ≤ℤ (pos K *ℤ (z +ℤ pos n)) → offset ≤ℤ pos (1 * H)
-  below-high h = ≤ℤ_by (rw far at h) (ring (u ∷ (pos K *ℤ z) ∷ pos H ∷ []) (λ u x h. # 1 ⊗ h ⊖ (u ⊖ # 1 ⊗ (x ⊕ # 1 ⊗ h)) ≐ x ⊕ (h ⊕ h) ⊖ u) tt)
+  below_high : u ≤ℤ (pos K *ℤ (z +ℤ pos n)) → offset ≤ℤ pos (1 * H)
+  below_high h = ≤ℤ_by (rw far at h) (ring (u ∷ (pos K *ℤ z) ∷ pos H ∷ []) (λ u x h. # 1 ⊗ h ⊖ (u ⊖ # 1 ⊗ (x ⊕ # 1 ⊗ h)) ≐ x ⊕ (h ⊕ h) ⊖ u) tt)
 
-  low-above : neg_ℤ (pos (1 * H)) ≤ℤ offset → (pos K *ℤ z) ≤ℤ u
-  low-above h = ≤ℤ_by h (ring (u ∷ (pos K *ℤ z) ∷ pos H ∷ []) (λ u x h. u ⊖ x ≐ u ⊖ # 1 ⊗ (x ⊕ # 1 ⊗ h) ⊖ ⊝ (# 1 ⊗ h)) tt)
+  low_above : neg_ℤ (pos (1 * H)) ≤ℤ offset → (pos K *ℤ z) ≤ℤ u
+  low_above h = ≤ℤ_by h (ring (u ∷ (pos K *ℤ z) ∷ pos H ∷ []) (λ u x h. u ⊖ x ≐ u ⊖ # 1 ⊗ (x ⊕ # 1 ⊗ h) ⊖ ⊝ (# 1 ⊗ h)) tt)
 
-  high-below : offset ≤ℤ pos (1 * H) → u ≤ℤ (pos K *ℤ (z +ℤ pos n))
-  high-below h = rw far (≤ℤ_by h (ring (u ∷ (pos K *ℤ z) ∷ pos H ∷ []) (λ u x h. x ⊕ (h ⊕ h) ⊖ u ≐ # 1 ⊗ h ⊖ (u ⊖ # 1 ⊗ (x ⊕ # 1 ⊗ h))) tt))
+  high_below : offset ≤ℤ pos (1 * H) → u ≤ℤ (pos K *ℤ (z +ℤ pos n))
+  high_below h = rw far (≤ℤ_by h (ring (u ∷ (pos K *ℤ z) ∷ pos H ∷ []) (λ u x h. x ⊕ (h ⊕ h) ⊖ u ≐ # 1 ⊗ h ⊖ (u ⊖ # 1 ⊗ (x ⊕ # 1 ⊗ h))) tt))
 
-  near-centre : ((pos K *ℤ z) ≤ℤ u) × (u ≤ℤ (pos K *ℤ (z +ℤ pos n))) → nat_abs offset ≤ 1 * H
-  near-centre h = nat_abs_bound (above_low h.0) (below-high h.1)
+  near_centre : ((pos K *ℤ z) ≤ℤ u) × (u ≤ℤ (pos K *ℤ (z +ℤ pos n))) → nat_abs offset ≤ 1 * H
+  near_centre h = nat_abs_bound (above_low h.0) (below_high h.1)
 
-  not-outside : nat_abs offset ≤ 1 * H → (lt_z u (pos K *ℤ z) ≡ false) × (lt_z (pos K *ℤ (z +ℤ pos n)) u ≡ false)
-  not-outside h =
-      (not_less (low-above (≤ℤ_trans (neg_ℤ_mono (pos_mono h)) (-nat_abs-≤ℤ offset))), not_less (high-below (≤ℤ_trans (≤ℤ-nat_abs offset) (pos_mono h))))
+  not_outside : nat_abs offset ≤ 1 * H → (lt_z u (pos K *ℤ z) ≡ false) × (lt_z (pos K *ℤ (z +ℤ pos n)) u ≡ false)
+  not_outside h =
+      (not_less (low_above (≤ℤ_trans (neg_ℤ_mono (pos_mono h)) (-nat_abs-≤ℤ offset))), not_less (high_below (≤ℤ_trans (≤ℤ-nat_abs offset) (pos_mono h))))
 
 pub square_is_cell : SquareIsCell
 square_is_cell S u v = (to, from)
@@ -71,13 +71,13 @@ square_is_cell S u v = (to, from)
     to e =
         let h = or_both (outside_side S.s S.k S.X u) (outside_side S.s S.k S.Y v) e in
         record {
-          across = near-centre (2 ^ (S.k + 1)) (2 ^ S.s) (half_side S 0) S.X u twice (inside_side S.s S.k S.X u h.0);
-          along = near-centre (2 ^ (S.k + 1)) (2 ^ S.s) (half_side S 0) S.Y v twice (inside_side S.s S.k S.Y v h.1);
+          across = near_centre (2 ^ (S.k + 1)) (2 ^ S.s) (half_side S 0) S.X u twice (inside_side S.s S.k S.X u h.0);
+          along = near_centre (2 ^ (S.k + 1)) (2 ^ S.s) (half_side S 0) S.Y v twice (inside_side S.s S.k S.Y v h.1);
         }
 
     from : InCell S 0 0 0 u v 1 → misplaced S (point u v) ≡ false
     from c =
-        let x = not-outside (2 ^ (S.k + 1)) (2 ^ S.s) (half_side S 0) S.X u twice c.across in let y = not-outside (2 ^ (S.k + 1)) (2 ^ S.s) (half_side S 0) S.Y v twice c.along in
+        let x = not_outside (2 ^ (S.k + 1)) (2 ^ S.s) (half_side S 0) S.X u twice c.across in let y = not_outside (2 ^ (S.k + 1)) (2 ^ S.s) (half_side S 0) S.Y v twice c.along in
         rw (x.0, x.1, y.0, y.1)
 
 -- ---- d 8 with k 7

@@ -24,7 +24,7 @@ use Rattle.verdicts.proofs.Bytes.{raster_byte}
 use Rattle.page.specs.Sheet.{Sheet}
 use Rattle.page.specs.Scaled.{half_side, InCell}
 use Rattle.page.specs.Bounds.{lower, upper, bend, verdict}
-use Rattle.page.specs.Refusals.{Given, not-given, given, if_given, Row, table, first}
+use Rattle.page.specs.Refusals.{Given, not_given, given, if_given, Row, table, first}
 use Rattle.page.specs.Raster.{Encloses, WhiteSigned, ColouredMeets, RasterSigned, RasterMeets, NeverTooMany, NeverNine}
 use Rattle.page.proofs.Rows.{no_row_9}
 use Rattle.page.proofs.Demand3.{one_sign, open_meets}
@@ -34,8 +34,8 @@ module _ (z M : ℤ) (Q H m p a : ℕ) (low : m * a ≤ p) (high : p + 1 ≤ m *
   abbrev offset : ℤ
   offset = M -ℤ pos Q *ℤ (z +ℤ pos ((2 * p + 1) * H))
 
-  abbrev offset-around : ℤ
-  offset-around = M -ℤ pos Q *ℤ (z +ℤ pos ((2 * a + 1) * (m * H)))
+  abbrev offset_around : ℤ
+  offset_around = M -ℤ pos Q *ℤ (z +ℤ pos ((2 * a + 1) * (m * H)))
 
   -- neither end passes the other's
   left : Q * (2 * (m * a) * H) ≤ Q * (2 * p * H)
@@ -44,17 +44,17 @@ module _ (z M : ℤ) (Q H m p a : ℕ) (low : m * a ≤ p) (high : p + 1 ≤ m *
   right : Q * (2 * (p + 1) * H) ≤ Q * (2 * (m * (a + 1)) * H)
   right = Nat.mul-le-mul_left Q (Nat.mul-le-mul_right H (Nat.mul-le-mul_left 2 high))
 
-  around-low : neg_ℤ (pos (Q * H)) ≤ℤ offset → neg_ℤ (pos (Q * (m * H))) ≤ℤ offset-around
-  around-low h = ≤ℤ_by (+ℤ_mono h (pos_mono left)) (ring (M ∷ z ∷ pos Q ∷ pos H ∷ pos m ∷ pos p ∷ pos a ∷ []) (λ M z Q H m p a.
+  around_low : neg_ℤ (pos (Q * H)) ≤ℤ offset → neg_ℤ (pos (Q * (m * H))) ≤ℤ offset_around
+  around_low h = ≤ℤ_by (+ℤ_mono h (pos_mono left)) (ring (M ∷ z ∷ pos Q ∷ pos H ∷ pos m ∷ pos p ∷ pos a ∷ []) (λ M z Q H m p a.
       M ⊖ Q ⊗ (z ⊕ (# 2 ⊗ a ⊕ # 1) ⊗ (m ⊗ H)) ⊖ ⊝ (Q ⊗ (m ⊗ H)) ≐ M ⊖ Q ⊗ (z ⊕ (# 2 ⊗ p ⊕ # 1) ⊗ H) ⊕ Q ⊗ (# 2 ⊗ p ⊗ H) ⊖ (⊝ (Q ⊗ H) ⊕ Q ⊗ (# 2 ⊗ (m ⊗ a) ⊗ H))) tt)
 
-  around-high : offset ≤ℤ pos (Q * H) → offset-around ≤ℤ pos (Q * (m * H))
-  around-high h = ≤ℤ_by (+ℤ_mono h (pos_mono right)) (ring (M ∷ z ∷ pos Q ∷ pos H ∷ pos m ∷ pos p ∷ pos a ∷ []) (λ M z Q H m p a.
+  around_high : offset ≤ℤ pos (Q * H) → offset_around ≤ℤ pos (Q * (m * H))
+  around_high h = ≤ℤ_by (+ℤ_mono h (pos_mono right)) (ring (M ∷ z ∷ pos Q ∷ pos H ∷ pos m ∷ pos p ∷ pos a ∷ []) (λ M z Q H m p a.
       Q ⊗ (m ⊗ H) ⊖ (M ⊖ Q ⊗ (z ⊕ (# 2 ⊗ a ⊕ # 1) ⊗ (m ⊗ H)))
       ≐ Q ⊗ H ⊕ Q ⊗ (# 2 ⊗ (m ⊗ (a ⊕ # 1)) ⊗ H) ⊖ (M ⊖ Q ⊗ (z ⊕ (# 2 ⊗ p ⊕ # 1) ⊗ H) ⊕ Q ⊗ (# 2 ⊗ (p ⊕ # 1) ⊗ H))) tt)
 
-  around : nat_abs offset ≤ Q * H → nat_abs offset-around ≤ Q * (m * H)
-  around h = nat_abs_bound (around-low (≤ℤ_trans (neg_ℤ_mono (pos_mono h)) (-nat_abs-≤ℤ offset))) (around-high (≤ℤ_trans (≤ℤ-nat_abs offset) (pos_mono h)))
+  around : nat_abs offset ≤ Q * H → nat_abs offset_around ≤ Q * (m * H)
+  around h = nat_abs_bound (around_low (≤ℤ_trans (neg_ℤ_mono (pos_mono h)) (-nat_abs-≤ℤ offset))) (around_high (≤ℤ_trans (≤ℤ-nat_abs offset) (pos_mono h)))
 
 -- ---- a point of a cell lies in each cell that encloses it
 pub encloses : Encloses
@@ -119,8 +119,8 @@ last_row r e h = let z = rw h at e in omega arith
 
 -- what is asked of a second thing, where a first is given too, does not hold if it holds of nothing
 both_given : (g h : Given) (f : ℕ → Bool) → ((n : ℕ) → f n ≡ false) → if_given g (λ _. if_given h f) ≡ false
-both_given not-given h f z = refl
-both_given (given m) not-given f z = refl
+both_given not_given h f z = refl
+both_given (given m) not_given f z = refl
 both_given (given m) (given n) f z = z n
 
 pub never_nine : NeverNine

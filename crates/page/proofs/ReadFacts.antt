@@ -14,7 +14,7 @@ use Rattle.page.specs.Sheet.{count}
 use Rattle.page.specs.Weight.{weight}
 use Rattle.page.specs.Refusals.{outside_range, ◌when◌, table, first, refusal, unless}
 use Rattle.page.specs.SheetLine.{Line, ended_line, before_line, lines, before_field, fields, Fault}
-use Rattle.page.specs.SheetText.{coefficient_of, Said, Text, bad-line, well-formed, text_of, sheet_in, to_read, refused, accepted, outcome_of, outcome}
+use Rattle.page.specs.SheetText.{coefficient_of, Said, Text, bad_line, well_formed, text_of, sheet_in, to_read, refused, accepted, outcome_of, outcome}
 use Rattle.page.specs.ReadFacts.{TermsAre, AsManyCoefficients, ReadNumber, ReadNever, number_of, rows_of, ReadTable, BadWithin, BadStays, LinesJoin, FieldsJoin, FourLines, FirstDecide}
 use Rattle.page.proofs.Rows.{unless_number}
 use Rattle.page.proofs.Order.{order_long, in_order_at}
@@ -26,7 +26,7 @@ terms_are w i j h = in_order_at w.d (coefficient_of w.terms) i j h
 pub as_many_coefficients : AsManyCoefficients
 as_many_coefficients w = order_long w.d (coefficient_of w.terms)
 
--- ---- the rows of a well-formed text: 1, 3, 4, 5, 6
+-- ---- the rows of a well_formed text: 1, 3, 4, 5, 6
 rows_held : (a c d e f : Bool) → let n : ℕ = cond a 1 (cond c 3 (cond d 4 (cond e 5 (cond f 6 0)))) in (n ≤ 6) × (n ≡ 2 → ⊥)
 rows_held true c d e f = (omega arith, λ z. omega arith)
 rows_held false true d e f = (omega arith, λ z. omega arith)
@@ -51,7 +51,7 @@ bad_stays ls more n f e = (bad_at ls more n f e).1
 
 -- ---- the fault of a bad line is one of 14 to 20, and the line is counted from 1
 abbrev Numbered : Text → Type 0
-Numbered t = (n : ℕ) (f : Fault) → t ≡ bad-line n f → (14 ≤ f.number) × (f.number ≤ 20) × (1 ≤ n)
+Numbered t = (n : ℕ) (f : Fault) → t ≡ bad_line n f → (14 ≤ f.number) × (f.number ≤ 20) × (1 ≤ n)
 
 numbered : (ls : List Line) → Numbered (text_of ls)
 numbered ls n f e = fault_numbered (bad_at ls [] n f e).0.placed
@@ -60,6 +60,7 @@ numbered ls n f e = fault_numbered (bad_at ls [] n f e).0.placed
 -- of the rows 14 to 20 it is that of the fault
 fault_row : (n : ℕ) (rows : List ℕ) → Memᴰ n rows → first (map (λ row. row when eqb n row) rows) ≡ n
 unfolding first
+fault_row n [] x = elim x [ ]
 fault_row n (r ∷ rs) (Memᴰ.head e) = rw (eq-eqb n r e) (sym e)
 fault_row n (r ∷ rs) (Memᴰ.tail m) = by (eqb n r) (eqb-true n r) (fault_row n rs m)
   where
@@ -70,23 +71,23 @@ fault_row n (r ∷ rs) (Memᴰ.tail m) = by (eqb n r) (eqb-true n r) (fault_row 
 in_table : (long : Bool) (t : Text) → Numbered t → number_of (cond long (refused 11 0 0) (outcome_of t)) ≡ cond long 11 (first (rows_of t))
 unfolding first ◌⋯◌ span run
 in_table true t c = refl
-in_table false (bad-line n f) c = let (a, b, _) = c n f refl in sym (fault_row f.number (14 ⋯ 20) (member_⋯ 14 20 f.number a b))
-in_table false (well-formed w) c = unless_number number_of (refusal (to_read w)) (λ n. refl) refl refl
+in_table false (bad_line n f) c = let (a, b, _) = c n f refl in sym (fault_row f.number (14 ⋯ 20) (member_⋯ 14 20 f.number a b))
+in_table false (well_formed w) c = unless_number number_of (refusal (to_read w)) (λ n. refl) refl refl
 
 pub read_table : ReadTable
 unfolding outcome first
 read_table text = in_table (ltb 8_192 (length text)) (text_of (lines text)) (numbered (lines text))
 
 -- ---- which numbers reading gives
--- by the rows of a well-formed text: without a line or a field
+-- by the rows of a well_formed text: without a line or a field
 pub by_rows : (m : ℕ) (w : Said) {n line field : ℕ} → unless m (λ n. refused n 0 0) (accepted w) ≡ refused n line field → (n ≡ m) × (m ≡ 0 → ⊥) × (line ≡ 0) × (field ≡ 0)
 by_rows zero w e = let z : ◌≡◌ {A = ℕ} 0 1 = cc in absurd (omega arith)
 by_rows (suc m) w e = ((cc), λ z. omega arith, (cc), (cc))
 
 told : (long : Bool) (t : Text) → Numbered t → {n line field : ℕ} → cond long (refused 11 0 0) (outcome_of t) ≡ refused n line field → ReadNumber n line field
 told true t c {n} {line} {field} e = let p : n ≡ 11 = cc in let q : line ≡ 0 = cc in let r : field ≡ 0 = cc in search arith
-told false (bad-line m f) c {n} {line} {field} e = let (a, b, l) = c m f refl in let p : n ≡ f.number = cc in let q : line ≡ m = cc in search arith
-told false (well-formed w) c {n} {line} {field} e =
+told false (bad_line m f) c {n} {line} {field} e = let (a, b, l) = c m f refl in let p : n ≡ f.number = cc in let q : line ≡ m = cc in search arith
+told false (well_formed w) c {n} {line} {field} e =
     let (p, o, q, r) = by_rows (refusal (to_read w)) w e in let (l, k) = text_rows w in
     let a : n ≡ 0 → ⊥ = λ z. o (sym p ∙ z) in let b : n ≡ 2 → ⊥ = λ z. k (sym p ∙ z) in search arith
 
@@ -119,7 +120,7 @@ pub fields_join : FieldsJoin
 unfolding fields
 fields_join bytes more = (joined 9 [] fields [] before_field (λ b bs. refl) (λ b p ps qs. refl) (λ b p ps. omega arith) refl bytes more).0 ∙ ap (λ l. fields l ++ fields more) (append-nil bytes)
 
--- ---- a well-formed text has each of the first four lines
+-- ---- a well_formed text has each of the first four lines
 pub four_lines : FourLines
 four_lines ls w e = subst (λ t. Walked ls t (text_of (ls ++ []))) e (text_walked ls [])
 

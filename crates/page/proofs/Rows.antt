@@ -21,11 +21,11 @@ use Rattle.page.specs.Steps.{range_refusal, mode_refusal}
 -- ---- a number outside its range is larger than 1,048,576 in size
 pub outside_size : (z : ℤ) → outside_range z ≡ ltb 1_048_576 (nat_abs z)
 outside_size (pos n) = refl
-outside_size (negsuc n) = or-false (ltb 1_048_575 n) ∙ sym (leb-suc-suc 1_048_576 n)
+outside_size (negsuc n) = or_false (ltb 1_048_575 n) ∙ sym (leb-suc-suc 1_048_576 n)
   where
-    or-false : (b : Bool) → b || false ≡ b
-    or-false true = refl
-    or-false false = refl
+    or_false : (b : Bool) → b || false ≡ b
+    or_false true = refl
+    or_false false = refl
 
 -- ---- the number n, or where it is 0 the next one
 abbrev pub or_else : ℕ → ℕ → ℕ
@@ -58,8 +58,8 @@ module _ (S : Sheet) where
   abbrev misframed : Bool
   misframed = outside_range S.X || outside_range S.Y || ltb 10 S.s
 
-  abbrev too-heavy : Bool
-  too-heavy = leb (2 ^ 62) (weight S)
+  abbrev too_heavy : Bool
+  too_heavy = leb (2 ^ 62) (weight S)
 
   -- the rows 1 to 4 before any others
   after_four : (m : ℕ) → cond (ltb 8 S.d) 1 (cond (not (eqb (length S.coefficients) (count S.d))) 2 (cond (ltb 7 S.k) 3 (cond misframed 4 m))) ≡ or_else (range_refusal S) m
@@ -67,34 +67,34 @@ module _ (S : Sheet) where
   after_four m = four_rows (ltb 8 S.d) (not (eqb (length S.coefficients) (count S.d))) (ltb 7 S.k) misframed m
 
   -- the rows of each call
-  pub check_rows : refusal (to_check S) ≡ or_else (range_refusal S) (cond too-heavy 6 0)
+  pub check_rows : refusal (to_check S) ≡ or_else (range_refusal S) (cond too_heavy 6 0)
   unfolding table first
-  check_rows = after_four (cond too-heavy 6 0)
+  check_rows = after_four (cond too_heavy 6 0)
 
   -- at a point: what check tries, and then row 8
   pub point_rows : (u v : ℤ) → refusal (at_point S u v) ≡ or_else (refusal (to_check S)) (cond (misplaced S (point u v)) 8 0)
   unfolding table first
   point_rows u v =
       let m : ℕ = cond (misplaced S (point u v)) 8 0 in
-      after_four (cond too-heavy 6 m) ∙ one_row (range_refusal S) too-heavy m ∙ ap (λ n. or_else n m) (sym check_rows)
+      after_four (cond too_heavy 6 m) ∙ one_row (range_refusal S) too_heavy m ∙ ap (λ n. or_else n m) (sym check_rows)
 
-  pub mode_rows : (mode : ℕ) → mode_refusal S mode ≡ or_else (range_refusal S) (cond (ltb 1 mode) 5 (cond too-heavy 6 0))
+  pub mode_rows : (mode : ℕ) → mode_refusal S mode ≡ or_else (range_refusal S) (cond (ltb 1 mode) 5 (cond too_heavy 6 0))
   unfolding table first mode_refusal
-  mode_rows mode = after_four (cond (ltb 1 mode) 5 (cond too-heavy 6 0))
+  mode_rows mode = after_four (cond (ltb 1 mode) 5 (cond too_heavy 6 0))
 
   -- the rows 1 to 6 before any others
-  after-six : (mode m : ℕ) → or_else (range_refusal S) (cond (ltb 1 mode) 5 (cond too-heavy 6 m)) ≡ or_else (mode_refusal S mode) m
-  after-six mode m = two_rows (range_refusal S) (ltb 1 mode) too-heavy m ∙ ap (λ n. or_else n m) (sym (mode_rows mode))
+  after_six : (mode m : ℕ) → or_else (range_refusal S) (cond (ltb 1 mode) 5 (cond too_heavy 6 m)) ≡ or_else (mode_refusal S mode) m
+  after_six mode m = two_rows (range_refusal S) (ltb 1 mode) too_heavy m ∙ ap (λ n. or_else n m) (sym (mode_rows mode))
 
   pub cell_rows : (mode j p q : ℕ) → refusal (in_cell S mode j p q) ≡ or_else (mode_refusal S mode) (cond (misplaced S (cell j p q)) 8 0)
   unfolding table first
-  cell_rows mode j p q = after_four (cond (ltb 1 mode) 5 (cond too-heavy 6 (cond (misplaced S (cell j p q)) 8 0))) ∙ after-six mode (cond (misplaced S (cell j p q)) 8 0)
+  cell_rows mode j p q = after_four (cond (ltb 1 mode) 5 (cond too_heavy 6 (cond (misplaced S (cell j p q)) 8 0))) ∙ after_six mode (cond (misplaced S (cell j p q)) 8 0)
 
   pub walk_rows : (mode n : ℕ) → refusal (to_walk S mode n) ≡ or_else (mode_refusal S mode) (cond (ltb n (4 ^ S.k)) 7 (cond (ltb 65_535 (visited (verdict S (mode_of mode)) S.k)) 9 0))
   unfolding table first
   walk_rows mode n =
       let m : ℕ = cond (ltb n (4 ^ S.k)) 7 (cond (ltb 65_535 (visited (verdict S (mode_of mode)) S.k)) 9 0) in
-      after_four (cond (ltb 1 mode) 5 (cond too-heavy 6 m)) ∙ after-six mode m
+      after_four (cond (ltb 1 mode) 5 (cond too_heavy 6 m)) ∙ after_six mode m
 
 -- ---- the rows 1 to 4, one after the other
 module _ (S : Sheet) where

@@ -9,7 +9,7 @@ use lib.Dec.{ltb, eqb}
 use lib.IntN.{ℤ}
 use Rattle.algebra.proofs.Choice.{and_left, and_right}
 use Rattle.page.specs.SheetLine.{Line, worths, Fault, good}
-use Rattle.page.specs.SheetText.{Term, term_of, is_term, is_named, Text, bad-line, with_line, term_numbers}
+use Rattle.page.specs.SheetText.{Term, term_of, is_term, is_named, Text, bad_line, with_line, term_numbers}
 use Rattle.page.specs.FaultFacts.{TermFor}
 use Rattle.page.proofs.Rows.{or_both}
 use Rattle.page.proofs.LineFaults.{term_means, good_means}
@@ -36,7 +36,7 @@ admitted d ts l zs e =
     (i, record { numbers = e ∙ ap good i; within = let b = t.within_degree (omega arith) in omega (arith, first_false); new = t.new (omega arith) })
 
 -- what follows from a term's line, bad or admitted
-pub term_line : (P : Text → Type 0) → ((n : ℕ) (f : Fault) → P (bad-line n f)) → (n d : ℕ) (ts : List Term) (l : Line) (rest : List ℤ → Text)
+pub term_line : (P : Text → Type 0) → ((n : ℕ) (f : Fault) → P (bad_line n f)) → (n d : ℕ) (ts : List Term) (l : Line) (rest : List ℤ → Text)
     → (Admitted d ts l → P (rest (worths l))) → P (with_line n (term_numbers d ts l) rest)
 term_line P bad n d ts l rest h =
     line_both (λ t _. P t) n (term_numbers d ts l) rest rest (λ f _. bad n f) (λ zs e. let (i, a) = admitted d ts l zs e in subst (λ zs. P (rest zs)) (sym i) (h a))

@@ -9,7 +9,7 @@ use lib.Dec.{ltb, eqb}
 use lib.ListN.{length}
 use Rattle.page.specs.Refusals.{refusal}
 use Rattle.page.specs.SheetLine.{Line, ended_line, before_line, lines, fault}
-use Rattle.page.specs.SheetText.{Text, bad-line, well-formed, text_of, to_read, refused, outcome_of, outcome}
+use Rattle.page.specs.SheetText.{Text, bad_line, well_formed, text_of, to_read, refused, outcome_of, outcome}
 use Rattle.page.specs.FaultFacts.{FaultPlaced, UnendedLast, FaultFound, FirstBad, FaultStays}
 use Rattle.page.proofs.TextWalk.{Ended, bad_at}
 use Rattle.page.proofs.ReadFacts.{bad_stays, by_rows, read_never, lines_join}
@@ -37,13 +37,13 @@ pub first_bad : FirstBad
 first_bad ls n f e h = let found = (bad_at ls [] n f e).0.found h in (found.before, found.alone)
 
 -- ---- a refusal that has a line is that of a bad line
-bad_of : (long : Bool) (t : Text) (n line field : ℕ) → cond long (refused 11 0 0) (outcome_of t) ≡ refused n line field → 1 ≤ line → t ≡ bad-line line (fault n field)
+bad_of : (long : Bool) (t : Text) (n line field : ℕ) → cond long (refused 11 0 0) (outcome_of t) ≡ refused n line field → 1 ≤ line → t ≡ bad_line line (fault n field)
 bad_of true t n line field e h = let z : line ≡ 0 = cc in absurd (omega arith)
-bad_of false (bad-line m f) n line field e h =
-    let p : m ≡ line = cc in let q : f.number ≡ n = cc in let r : f.field ≡ field = cc in λ i. bad-line (p i) (fault (q i) (r i))
-bad_of false (well-formed w) n line field e h = let (_, _, z, _) = by_rows (refusal (to_read w)) w e in absurd (omega arith)
+bad_of false (bad_line m f) n line field e h =
+    let p : m ≡ line = cc in let q : f.number ≡ n = cc in let r : f.field ≡ field = cc in λ i. bad_line (p i) (fault (q i) (r i))
+bad_of false (well_formed w) n line field e h = let (_, _, z, _) = by_rows (refusal (to_read w)) w e in absurd (omega arith)
 
-bad_text : (text : List ℕ) (n line field : ℕ) → outcome text ≡ refused n line field → 1 ≤ line → text_of (lines text) ≡ bad-line line (fault n field)
+bad_text : (text : List ℕ) (n line field : ℕ) → outcome text ≡ refused n line field → 1 ≤ line → text_of (lines text) ≡ bad_line line (fault n field)
 unfolding outcome
 bad_text text n line field e h = bad_of (ltb 8_192 (length text)) (text_of (lines text)) n line field e h
 

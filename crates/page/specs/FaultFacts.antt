@@ -1,7 +1,7 @@
 -- Request #105, what is wrong with this line: what the request says of a line's fault and of a text's, as statements. That they hold is proofs/LineFaults and proofs/TextFaults.
 use Rattle.std.specs.Prelude.{◌≡◌, Bool, true, false, ◌||◌, cond, List, [], ◌∷◌, ◌++◌, ℕ, ◌+◌, ◌-◌, ◌≤◌, ◌<◌, eqb, length, get_or, take}
 use Rattle.page.specs.SheetLine.{Line, ended_line, lines, is_written, is_within, worth, unsigned, signed, letter_field, number_fields, is_letter, reads_well, Fault, fault, missing, Numbers, faulty, good, worths, line_numbers}
-use Rattle.page.specs.SheetText.{Term, term_of, is_named, is_beyond, Said, bad-line, well-formed, text_of, term_numbers, refused, outcome}
+use Rattle.page.specs.SheetText.{Term, term_of, is_named, is_beyond, Said, bad_line, well_formed, text_of, term_numbers, refused, outcome}
 
 -- ---- what each number says of a line: its own condition holds, and nothing tried before it does
 -- the field of a line's n-th number, from 0, and whether that number may be negative
@@ -26,15 +26,15 @@ module _ (letter : ℕ) (ns : List Bool) (e : ℕ) (beyond twice : Bool) (l : Li
 
   pub data Means : Numbers → Type 0 where
     -- 14 at field 1
-    wrong-letter : is_letter letter (letter_field l) ≡ false → Means (faulty (fault 14 1))
+    wrong_letter : is_letter letter (letter_field l) ≡ false → Means (faulty (fault 14 1))
     -- 15 at field 0, after the letter
-    wrong-count : is_letter letter (letter_field l) ≡ true → (length (number_fields l) ≡ length ns → ⊥) → Means (faulty (fault 15 0))
+    wrong_count : is_letter letter (letter_field l) ≡ true → (length (number_fields l) ≡ length ns → ⊥) → Means (faulty (fault 15 0))
     -- 16 and then 17 at the leftmost field that does not read well
-    badly-written : (n : ℕ) → n < length ns → RightBefore letter ns l n → TermFine n → is_written (field_of l n) ≡ false → Means (faulty (fault 16 (n + 2)))
+    badly_written : (n : ℕ) → n < length ns → RightBefore letter ns l n → TermFine n → is_written (field_of l n) ≡ false → Means (faulty (fault 16 (n + 2)))
     out_of_range : (n : ℕ) → n < length ns → RightBefore letter ns l n → TermFine n → is_written (field_of l n) ≡ true → is_within (sign_of ns n) (worth (field_of l n)) ≡ false → Means (faulty (fault 17 (n + 2)))
     -- 18 and then 19 at field 2, once the exponents read well
-    beyond-degree : e < length ns → RightBefore letter ns l e → beyond ≡ true → Means (faulty (fault 18 2))
-    given-twice : e < length ns → RightBefore letter ns l e → beyond ≡ false → twice ≡ true → Means (faulty (fault 19 2))
+    beyond_degree : e < length ns → RightBefore letter ns l e → beyond ≡ true → Means (faulty (fault 18 2))
+    given_twice : e < length ns → RightBefore letter ns l e → beyond ≡ false → twice ≡ true → Means (faulty (fault 19 2))
     -- 20 at field 0, last
     unended : RightBefore letter ns l (length ns) → TermFine (length ns) → l.ended ≡ false → Means (faulty (fault 20 0))
     -- no fault: the numbers
@@ -62,19 +62,19 @@ abbrev pub numbers_on : ℕ → ℕ
 numbers_on n = cond (eqb n 1 || eqb n 3 || eqb n 4) 1 3
 
 pub data FaultAt (m line : ℕ) : Fault → Type 0 where
-  at-letter : 1 ≤ line → line ≤ m → FaultAt m line (fault 14 1)
+  at_letter : 1 ≤ line → line ≤ m → FaultAt m line (fault 14 1)
   -- one of the first four is missing: the first line after the end
-  at-no-line : line ≡ m + 1 → line ≤ 4 → FaultAt m line missing
+  at_no_line : line ≡ m + 1 → line ≤ 4 → FaultAt m line missing
   at_count : 1 ≤ line → line ≤ m → FaultAt m line (fault 15 0)
-  at-badly-written : (field : ℕ) → 1 ≤ line → line ≤ m → 2 ≤ field → field ≤ numbers_on line + 1 → FaultAt m line (fault 16 field)
-  at-out-of-range : (field : ℕ) → 1 ≤ line → line ≤ m → 2 ≤ field → field ≤ numbers_on line + 1 → FaultAt m line (fault 17 field)
+  at_badly_written : (field : ℕ) → 1 ≤ line → line ≤ m → 2 ≤ field → field ≤ numbers_on line + 1 → FaultAt m line (fault 16 field)
+  at_out_of_range : (field : ℕ) → 1 ≤ line → line ≤ m → 2 ≤ field → field ≤ numbers_on line + 1 → FaultAt m line (fault 17 field)
   -- only a term's line has a term fault
-  at-beyond : 5 ≤ line → line ≤ m → FaultAt m line (fault 18 2)
-  at-twice : 5 ≤ line → line ≤ m → FaultAt m line (fault 19 2)
-  at-end : 1 ≤ line → line ≤ m → FaultAt m line (fault 20 0)
+  at_beyond : 5 ≤ line → line ≤ m → FaultAt m line (fault 18 2)
+  at_twice : 5 ≤ line → line ≤ m → FaultAt m line (fault 19 2)
+  at_end : 1 ≤ line → line ≤ m → FaultAt m line (fault 20 0)
 
 abbrev pub FaultPlaced : Type 0
-FaultPlaced = (ls : List Line) (n : ℕ) (f : Fault) → text_of ls ≡ bad-line n f → FaultAt (length ls) n f
+FaultPlaced = (ls : List Line) (n : ℕ) (f : Fault) → text_of ls ≡ bad_line n f → FaultAt (length ls) n f
 
 -- an unended line is the last one
 abbrev pub UnendedLast : Type 0
@@ -93,17 +93,17 @@ signs_on n = cond (eqb n 1 || eqb n 3 || eqb n 4) (unsigned ∷ []) (cond (eqb n
 
 -- what the n-th line comes to: one of the first four by itself, a term's line with what the lines before it say
 pub data ComesTo (ls : List Line) (n : ℕ) (f : Fault) : Type 0 where
-  as-head : n ≤ 4 → line_numbers (letter_on n) (signs_on n) (line_at ls n) ≡ faulty f → ComesTo ls n f
-  as_term : (w : Said) → 5 ≤ n → text_of (take (n - 1) ls) ≡ well-formed w → term_numbers w.d w.terms (line_at ls n) ≡ faulty f → ComesTo ls n f
+  as_head : n ≤ 4 → line_numbers (letter_on n) (signs_on n) (line_at ls n) ≡ faulty f → ComesTo ls n f
+  as_term : (w : Said) → 5 ≤ n → text_of (take (n - 1) ls) ≡ well_formed w → term_numbers w.d w.terms (line_at ls n) ≡ faulty f → ComesTo ls n f
 
 -- the fault of the text is that of the bad line
 abbrev pub FaultFound : Type 0
-FaultFound = (ls : List Line) (n : ℕ) (f : Fault) → text_of ls ≡ bad-line n f → n ≤ length ls → ComesTo ls n f
+FaultFound = (ls : List Line) (n : ℕ) (f : Fault) → text_of ls ≡ bad_line n f → n ≤ length ls → ComesTo ls n f
 
 -- which is the first: the lines before it have no fault, though one of the first four may be missing yet; and with it alone after them the text is bad there, by the same fault
 abbrev pub FirstBad : Type 0
-FirstBad = (ls : List Line) (n : ℕ) (f : Fault) → text_of ls ≡ bad-line n f → n ≤ length ls →
-    ((m : ℕ) (g : Fault) → text_of (take (n - 1) ls) ≡ bad-line m g → (m ≡ n) × (g ≡ missing)) × (text_of (take n ls) ≡ bad-line n f)
+FirstBad = (ls : List Line) (n : ℕ) (f : Fault) → text_of ls ≡ bad_line n f → n ≤ length ls →
+    ((m : ℕ) (g : Fault) → text_of (take (n - 1) ls) ≡ bad_line m g → (m ≡ n) × (g ≡ missing)) × (text_of (take n ls) ≡ bad_line n f)
 
 -- whatever bytes come after that line's LF
 abbrev pub FaultStays : Type 0

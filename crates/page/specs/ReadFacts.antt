@@ -5,7 +5,7 @@ use Rattle.algebra.specs.Triangle.{place}
 use Rattle.page.specs.Sheet.{count, A}
 use Rattle.page.specs.Refusals.{Row, ◌when◌, table, first}
 use Rattle.page.specs.SheetLine.{Line, lines, fields, Fault, worths, number_at, whole_at}
-use Rattle.page.specs.SheetText.{coefficient_of, Said, Text, bad-line, well-formed, text_of, in_order, sheet_in, to_read, Outcome, refused, accepted, outcome}
+use Rattle.page.specs.SheetText.{coefficient_of, Said, Text, bad_line, well_formed, text_of, in_order, sheet_in, to_read, Outcome, refused, accepted, outcome}
 
 -- ---- the order i = 0..d and within it j = 0..d-i: what is listed in that order has A(i,j) at the place of (i,j)
 abbrev pub InOrderAt : Type 0
@@ -17,10 +17,10 @@ TermsAre = (w : Said) (i j : ℕ) → i + j ≤ w.d → A (sheet_in w) i j ≡ c
 
 -- a line `T` i j coefficient, after the first four, gives A(i,j)
 abbrev pub TermGiven : Type 0
-TermGiven = (ls more : List Line) (l : Line) (v : Said) → 4 ≤ length ls → text_of (ls ++ (l ∷ more)) ≡ well-formed v →
+TermGiven = (ls more : List Line) (l : Line) (v : Said) → 4 ≤ length ls → text_of (ls ++ (l ∷ more)) ≡ well_formed v →
     A (sheet_in v) (whole_at (worths l) 0) (whole_at (worths l) 1) ≡ number_at (worths l) 2
 
--- ---- reading never meets 2: a well-formed text has as many coefficients as its degree asks for
+-- ---- reading never meets 2: a well_formed text has as many coefficients as its degree asks for
 abbrev pub AsManyCoefficients : Type 0
 AsManyCoefficients = (w : Said) → length (sheet_in w).coefficients ≡ count w.d
 
@@ -47,8 +47,8 @@ abbrev pub fault_rows : ℕ → List Row
 fault_rows n = map (λ row. row when eqb n row) (14 ⋯ 20)
 
 abbrev pub rows_of : Text → List Row
-rows_of (bad-line n f) = fault_rows f.number
-rows_of (well-formed w) = fault_rows 0 ++ table (to_read w)
+rows_of (bad_line n f) = fault_rows f.number
+rows_of (well_formed w) = fault_rows 0 ++ table (to_read w)
 
 abbrev pub text_table : List ℕ → List Row
 text_table text = (11 when ltb 8_192 (length text)) ∷ rows_of (text_of (lines text))
@@ -58,11 +58,11 @@ ReadTable = (text : List ℕ) → number_of (outcome text) ≡ first (text_table
 
 -- ---- the bad line is one of the text, or the first line after its end
 abbrev pub BadWithin : Type 0
-BadWithin = (ls : List Line) (n : ℕ) (f : Fault) → text_of ls ≡ bad-line n f → n ≤ length ls + 1
+BadWithin = (ls : List Line) (n : ℕ) (f : Fault) → text_of ls ≡ bad_line n f → n ≤ length ls + 1
 
 -- and a bad line of the text stays the bad one, by the same fault, whatever lines come after
 abbrev pub BadStays : Type 0
-BadStays = (ls more : List Line) (n : ℕ) (f : Fault) → text_of ls ≡ bad-line n f → n ≤ length ls → text_of (ls ++ more) ≡ bad-line n f
+BadStays = (ls more : List Line) (n : ℕ) (f : Fault) → text_of ls ≡ bad_line n f → n ≤ length ls → text_of (ls ++ more) ≡ bad_line n f
 
 -- bytes after an LF are lines of their own: they change none of those before
 abbrev pub LinesJoin : Type 0
@@ -72,19 +72,19 @@ LinesJoin = (text more : List ℕ) → lines (text ++ (10 ∷ more)) ≡ lines (
 abbrev pub FieldsJoin : Type 0
 FieldsJoin = (before more : List ℕ) → fields (before ++ (9 ∷ more)) ≡ fields before ++ fields more
 
--- a text in which one of the first four lines is missing is not well-formed
+-- a text in which one of the first four lines is missing is not well_formed
 abbrev pub FourLines : Type 0
-FourLines = (ls : List Line) (w : Said) → text_of ls ≡ well-formed w → 4 ≤ length ls
+FourLines = (ls : List Line) (w : Said) → text_of ls ≡ well_formed w → 4 ≤ length ls
 
--- ---- terms may come in any order: two of them that stand side by side, after the first four lines, may be exchanged, and the text is well-formed as before, with the same sheet and mode
+-- ---- terms may come in any order: two of them that stand side by side, after the first four lines, may be exchanged, and the text is well_formed as before, with the same sheet and mode
 pub record SameSheet (v : Said) (t : Text) : Type 0 where
   pub said : Said
-  pub well : t ≡ well-formed said
+  pub well : t ≡ well_formed said
   pub sheet : sheet_in said ≡ sheet_in v
   pub mode : said.mode ≡ v.mode
 
 abbrev pub AnyOrder : Type 0
-AnyOrder = (ls more : List Line) (a b : Line) (v : Said) → 4 ≤ length ls → text_of (ls ++ (a ∷ b ∷ more)) ≡ well-formed v → SameSheet v (text_of (ls ++ (b ∷ a ∷ more)))
+AnyOrder = (ls more : List Line) (a b : Line) (v : Said) → 4 ≤ length ls → text_of (ls ++ (a ∷ b ∷ more)) ≡ well_formed v → SameSheet v (text_of (ls ++ (b ∷ a ∷ more)))
 
 -- ---- the first 8,193 bytes decide: more of a text need not be held
 abbrev pub FirstDecide : Type 0

@@ -8,7 +8,7 @@ use Rattle.verdicts.specs.Walking.{visited}
 
 -- ---- what a call is given: a sheet; a mode, unless it takes none; the entries of a raster or listing place; a cell or a point
 pub data Given : Type 0 where
-  not-given : Given
+  not_given : Given
   given : ℕ → Given
 
 pub data Question : Type 0 where
@@ -24,20 +24,20 @@ pub record Input : Type 0 where
 
 -- check a sheet; value F at a point; bounds and bend of a cell; raster or listing, of which the place has n entries
 abbrev pub to_check : Sheet → Input
-to_check S = record { sheet = S; mode = not-given; entries = not-given; question = nothing }
+to_check S = record { sheet = S; mode = not_given; entries = not_given; question = nothing }
 
 abbrev pub at_point : Sheet → ℤ → ℤ → Input
-at_point S u v = record { sheet = S; mode = not-given; entries = not-given; question = point u v }
+at_point S u v = record { sheet = S; mode = not_given; entries = not_given; question = point u v }
 
 abbrev pub in_cell : Sheet → ℕ → ℕ → ℕ → ℕ → Input
-in_cell S mode j p q = record { sheet = S; mode = given mode; entries = not-given; question = cell j p q }
+in_cell S mode j p q = record { sheet = S; mode = given mode; entries = not_given; question = cell j p q }
 
 abbrev pub to_walk : Sheet → ℕ → ℕ → Input
 to_walk S mode n = record { sheet = S; mode = given mode; entries = given n; question = nothing }
 
 -- a call skips what it has no input for
 abbrev pub if_given : Given → (ℕ → Bool) → Bool
-if_given not-given holds = false
+if_given not_given holds = false
 if_given (given n) holds = holds n
 
 -- ---- the conditions

@@ -64,21 +64,21 @@ column_alone false false = refl
 
 module _ (k : ℕ) (raster : List ℕ) where
   -- ---- a row, and the rows
-  row-bits : (q : ℕ) → bits_of (row_text (2 ^ k) raster q) ≡ map (λ p. bit (get_or raster (q * 2 ^ k + p) 0)) (span 0 (2 ^ k))
+  row_bits : (q : ℕ) → bits_of (row_text (2 ^ k) raster q) ≡ map (λ p. bit (get_or raster (q * 2 ^ k + p) 0)) (span 0 (2 ^ k))
   unfolding row_text
-  row-bits q = bits_flat_map (digit_text (2 ^ k) raster q) (span 0 (2 ^ k)) ∙ flat_map_one (span 0 (2 ^ k)) (λ p m. column_bits (eqb (get_or raster (q * 2 ^ k + p) 0) 1) (ends_line (2 ^ k) p))
+  row_bits q = bits_flat_map (digit_text (2 ^ k) raster q) (span 0 (2 ^ k)) ∙ flat_map_one (span 0 (2 ^ k)) (λ p m. column_bits (eqb (get_or raster (q * 2 ^ k + p) 0) 1) (ends_line (2 ^ k) p))
 
   pub rows_bits : bits_of (rows_text (2 ^ k) raster) ≡ table (2 ^ k) (2 ^ k) (λ n p. bit (get_or raster ((2 ^ k - 1 - n) * 2 ^ k + p) 0))
   unfolding rows_text table
-  rows_bits = bits_flat_map _ (span 0 (2 ^ k)) ∙ flat_map_cong (span 0 (2 ^ k)) (λ n m. row-bits _)
+  rows_bits = bits_flat_map _ (span 0 (2 ^ k)) ∙ flat_map_cong (span 0 (2 ^ k)) (λ n m. row_bits _)
 
-  row-alone : (q : ℕ) → each (λ b. is_white b || is_bit b) (row_text (2 ^ k) raster q) ≡ true
+  row_alone : (q : ℕ) → each (λ b. is_white b || is_bit b) (row_text (2 ^ k) raster q) ≡ true
   unfolding row_text
-  row-alone q = each_flat_map (λ b. is_white b || is_bit b) (digit_text (2 ^ k) raster q) (span 0 (2 ^ k)) (λ p m. column_alone (eqb (get_or raster (q * 2 ^ k + p) 0) 1) (ends_line (2 ^ k) p))
+  row_alone q = each_flat_map (λ b. is_white b || is_bit b) (digit_text (2 ^ k) raster q) (span 0 (2 ^ k)) (λ p m. column_alone (eqb (get_or raster (q * 2 ^ k + p) 0) 1) (ends_line (2 ^ k) p))
 
   pub rows_alone : each (λ b. is_white b || is_bit b) (rows_text (2 ^ k) raster) ≡ true
   unfolding rows_text
-  rows_alone = each_flat_map (λ b. is_white b || is_bit b) _ (span 0 (2 ^ k)) (λ n m. row-alone _)
+  rows_alone = each_flat_map (λ b. is_white b || is_bit b) _ (span 0 (2 ^ k)) (λ n m. row_alone _)
 
 -- ---- the last digit is that of the last column in the bottom row; what stands before it is the rows above, and the columns before
 pub before_last : ℕ → List ℕ → List ℕ

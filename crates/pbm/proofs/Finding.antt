@@ -30,25 +30,25 @@ module _ (t : Parts) (h : ArePlain t) where
   abbrev n : ℕ
   n = amount 0 t.height
 
-  bits-found : after_opening w n (t.digits ++ (t.last_digit ∷ t.after)) ≡ plain (picture_of t)
+  bits_found : after_opening w n (t.digits ++ (t.last_digit ∷ t.after)) ≡ plain (picture_of t)
   unfolding bits_in
-  bits-found =
+  bits_found =
       ap (λ m. found_in w n (take_bits m (t.digits ++ (t.last_digit ∷ t.after)))) (sym h.complete)
       ∙ ap (found_in w n) (bits_taken t.digits t.last_digit t.after h.digits_alone h.ends_in_digit)
       ∙ rw h.followed
 
-  parts-found : found (plain_text t) ≡ plain (picture_of t)
+  parts_found : found (plain_text t) ≡ plain (picture_of t)
   unfolding found plain_text
-  parts-found =
+  parts_found =
       let bits = t.digits ++ (t.last_digit ∷ t.after) in let opened = piece_text t.opening ++ bits in let second = gap_text t.before_height ++ (t.height ++ opened) in
       ap found (regrouped (gap_text t.before_width) t.width (gap_text t.before_height) t.height (piece_text t.opening) t.digits (t.last_digit ∷ t.after))
       ∙ size_passed t.before_width t.width second after_width h.width_parted h.width_written (gap_parts t.before_height (t.height ++ opened) h.height_parted)
       ∙ size_passed t.before_height t.height opened (after_height w) h.height_parted h.height_written (piece_parts t.opening bits h.opened)
       ∙ opening_passed t.opening bits (after_opening w n) h.opened
-      ∙ bits-found
+      ∙ bits_found
 
 pub plain_found : {text : List ℕ} {P : Picture} → IsPlain text P → found text ≡ plain P
-plain_found p = ap found p.made ∙ parts-found p.parts p.plain ∙ ap plain (sym p.told)
+plain_found p = ap found p.made ∙ parts_found p.parts p.plain ∙ ap plain (sym p.told)
 
 -- ---- what is found is a plain PBM
 -- its digits are complete, and nothing runs into the last one

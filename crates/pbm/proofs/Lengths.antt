@@ -59,17 +59,17 @@ module _ (k : ℕ) (raster : List ℕ) (q : ℕ) where
   column_plain p e = rw e
 
   -- before the last column an LF follows every 70 digits
-  column-long : (p : ℕ) → p + 1 < 2 ^ k → length (digit_text (2 ^ k) raster q p) + p / 70 ≡ 1 + (p + 1) / 70
-  column-long p h = elim (ℕ_discrete ((p + 1) % 70) 0) [
+  column_long : (p : ℕ) → p + 1 < 2 ^ k → length (digit_text (2 ^ k) raster q p) + p / 70 ≡ 1 + (p + 1) / 70
+  column_long p h = elim (ℕ_discrete ((p + 1) % 70) 0) [
     | yes e ↦ omega (arith, ap length (column_ended p (ends_full k p e)))
     | no n ↦ omega (arith, ap length (column_plain p (ends_not k p n (λ e. omega arith))))
   ]
 
-  below-long : (m : ℕ) → m < 2 ^ k → length (flat_map (digit_text (2 ^ k) raster q) (span 0 m)) ≡ m + m / 70
-  below-long zero h = ap length (below_none (digit_text (2 ^ k) raster q))
-  below-long (suc m) h =
-      let one = column-long m (omega arith) in
-      let others = below-long m (omega arith) in
+  below_long : (m : ℕ) → m < 2 ^ k → length (flat_map (digit_text (2 ^ k) raster q) (span 0 m)) ≡ m + m / 70
+  below_long zero h = ap length (below_none (digit_text (2 ^ k) raster q))
+  below_long (suc m) h =
+      let one = column_long m (omega arith) in
+      let others = below_long m (omega arith) in
       ap length (below_next (digit_text (2 ^ k) raster q) m) ∙ length-append (flat_map (digit_text (2 ^ k) raster q) (span 0 m)) (digit_text (2 ^ k) raster q m) ∙ omega arith
 
   -- the last column has one too
@@ -84,7 +84,7 @@ module _ (k : ℕ) (raster : List ℕ) (q : ℕ) where
   pub row_long : length (row_text (2 ^ k) raster q) ≡ 2 ^ k + (2 ^ k + 69) / 70
   row_long =
       let some = pow_pos k in
-      let before = below-long (2 ^ k - 1) (omega arith) in
+      let before = below_long (2 ^ k - 1) (omega arith) in
       ap length row_parts ∙ length-append (flat_map (digit_text (2 ^ k) raster q) (span 0 (2 ^ k - 1))) _ ∙ omega arith
 
 -- ---- all rows, the head, and the text

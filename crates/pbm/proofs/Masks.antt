@@ -59,16 +59,16 @@ module _ {X : Type 0} where
   table_cong m s h = flat_map_cong (span 0 m) (λ q i. map_cong (span 0 s) (λ p j. h q p (span_member 0 m i).1 (span_member 0 s j).1))
 
   -- ---- a list's entries in rows
-  run-shifted : (f : ℕ → X) (a b n : ℕ) → map f (run (a + b) n) ≡ map (λ p. f (a + p)) (run b n)
+  run_shifted : (f : ℕ → X) (a b n : ℕ) → map f (run (a + b) n) ≡ map (λ p. f (a + p)) (run b n)
   unfolding run
-  run-shifted f a b zero = refl
-  run-shifted f a b (suc n) = ap (λ l. f (a + b) ∷ l) (ap (λ c. map f (run c n)) (sym (Nat.add-suc a b)) ∙ run-shifted f a (suc b) n)
+  run_shifted f a b zero = refl
+  run_shifted f a b (suc n) = ap (λ l. f (a + b) ∷ l) (ap (λ c. map f (run c n)) (sym (Nat.add-suc a b)) ∙ run_shifted f a (suc b) n)
 
   pub span_shifted : (f : ℕ → X) (a n : ℕ) → map f (span a (a + n)) ≡ map (λ p. f (a + p)) (span 0 n)
   unfolding span
   span_shifted f a n =
       let e : a + n - a ≡ n - 0 = omega arith in
-      ap (λ m. map f (run a m)) e ∙ ap (λ b. map f (run b (n - 0))) (sym (Nat.add-zero a)) ∙ run-shifted f a 0 (n - 0)
+      ap (λ m. map f (run a m)) e ∙ ap (λ b. map f (run b (n - 0))) (sym (Nat.add-zero a)) ∙ run_shifted f a 0 (n - 0)
 
   pub table_flat : (f : ℕ → X) (m s : ℕ) → table m s (λ q p. f (q * s + p)) ≡ map f (span 0 (m * s))
   table_flat f zero s = table_none s (λ q p. f (q * s + p)) ∙ sym (ap (λ n. map f (span 0 n)) (Nat.zero-mul s) ∙ ap (map f) (span_none 0 0 (Nat.le_refl 0)))

@@ -62,8 +62,8 @@ module _ (k : ℕ) (raster : List ℕ) where
   unfolding bits_in
   bits_are = sym (bits_LF (before_last k raster) (digit (2 ^ k) raster 0 (2 ^ k - 1))) ∙ ap bits_of (sym (rows_end k raster)) ∙ rows_bits k raster
 
-  are-plain : ArePlain parts
-  are-plain = record {
+  are_plain : ArePlain parts
+  are_plain = record {
     width_parted = refl;
     width_written = decimal_size (2 ^ k) (pow_pos k);
     height_parted = refl;
@@ -85,7 +85,7 @@ module _ (k : ℕ) (raster : List ℕ) where
 pub written_returns : WrittenReturns
 written_returns k raster h l = record {
   picture = picture_of (parts k raster);
-  plain = record { parts = parts k raster; plain = are-plain k raster; made = made k raster; told = refl };
+  plain = record { parts = parts k raster; plain = are_plain k raster; made = made k raster; told = refl };
   deep = deep_side k (picture_of (parts k raster)) h (amount_decimal (2 ^ k)) (amount_decimal (2 ^ k));
   same = ap (λ s. mask s (bits_in (parts k raster))) (amount_decimal (2 ^ k)) ∙ masks k raster l;
 }

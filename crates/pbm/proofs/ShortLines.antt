@@ -81,8 +81,8 @@ lined_short m xs h = each_short m (lines xs) (short_lines h refl (omega arith))
 
 -- ---- a row: m digits are some lines of 70 and m % 70 digits more, and the last digit ends a line
 module _ (k : ℕ) (raster : List ℕ) (q : ℕ) where
-  lined-column : (p : ℕ) → p + 1 < 2 ^ k → Lined 70 (p % 70) (digit_text (2 ^ k) raster q p) (suc p % 70)
-  lined-column p h =
+  lined_column : (p : ℕ) → p + 1 < 2 ^ k → Lined 70 (p % 70) (digit_text (2 ^ k) raster q p) (suc p % 70)
+  lined_column p h =
       let byte = no_LF (digit (2 ^ k) raster q p) (omega arith) in
       let room : p % 70 < 70 = omega arith in
       elim (ℕ_discrete ((p + 1) % 70) 0) [
@@ -94,15 +94,15 @@ module _ (k : ℕ) (raster : List ℕ) (q : ℕ) where
             rw (column_plain k raster q p (ends_not k p n (λ e. omega arith))) (goes byte room (none next))
       ]
 
-  lined-below : (m : ℕ) → m < 2 ^ k → Lined 70 0 (flat_map (digit_text (2 ^ k) raster q) (span 0 m)) (m % 70)
-  lined-below zero h = rw (below_none (digit_text (2 ^ k) raster q)) (none refl)
-  lined-below (suc m) h = rw (below_next (digit_text (2 ^ k) raster q) m) (lined_++ (lined-below m (omega arith)) (lined-column m (omega arith)))
+  lined_below : (m : ℕ) → m < 2 ^ k → Lined 70 0 (flat_map (digit_text (2 ^ k) raster q) (span 0 m)) (m % 70)
+  lined_below zero h = rw (below_none (digit_text (2 ^ k) raster q)) (none refl)
+  lined_below (suc m) h = rw (below_next (digit_text (2 ^ k) raster q) m) (lined_++ (lined_below m (omega arith)) (lined_column m (omega arith)))
 
   pub lined_row : Lined 70 0 (row_text (2 ^ k) raster q) 0
   lined_row =
       let some = pow_pos k in
       let room : (2 ^ k - 1) % 70 < 70 = omega arith in
-      rw (row_parts k raster q) (lined_++ (lined-below (2 ^ k - 1) (omega arith)) (goes (no_LF _ (omega arith)) room (ends refl (none refl))))
+      rw (row_parts k raster q) (lined_++ (lined_below (2 ^ k - 1) (omega arith)) (goes (no_LF _ (omega arith)) room (ends refl (none refl))))
 
 -- ---- the head: `P1`, and a line of two sizes, at most 7 bytes
 lined_head : (k : ℕ) → k ≤ 7 → Lined 70 0 (head_text (2 ^ k)) 0

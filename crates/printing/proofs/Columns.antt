@@ -33,14 +33,14 @@ module _ (side byte p : ℕ) where
 
   -- d is the digit
   module _ {d : ℕ} (e : d ≡ 48 + bit byte) {at end : ℕ} {old place : List ℕ} (q : Put at (d ∷ []) old place end) where
-    digit-put : Put at ((48 + bit byte) ∷ []) old place end
-    digit-put = subst (λ b. Put at (b ∷ []) old place end) e q
+    digit_put : Put at ((48 + bit byte) ∷ []) old place end
+    digit_put = subst (λ b. Put at (b ∷ []) old place end) e q
 
     pub put_ended : {now : List ℕ} {r : ℕ} → ends_line side p ≡ true → Put end (10 ∷ []) place now r → Put at (digit_bytes side byte p) old now r
-    put_ended {now} {r} h lf = subst (λ l. Put at l old now r) (sym (ended h)) (put_two digit-put lf)
+    put_ended {now} {r} h lf = subst (λ l. Put at l old now r) (sym (ended h)) (put_two digit_put lf)
 
     pub put_plain : ends_line side p ≡ false → Put at (digit_bytes side byte p) old place end
-    put_plain h = subst (λ l. Put at l old place end) (sym (plain h)) digit-put
+    put_plain h = subst (λ l. Put at l old place end) (sym (plain h)) digit_put
 
 -- ---- lists of the same lengths come to the same length
 same_lengths : (f g : ℕ → List ℕ) (xs : List ℕ) → ((x : ℕ) → length (f x) ≡ length (g x)) → length (flat_map f xs) ≡ length (flat_map g xs)

@@ -11,7 +11,7 @@ use lib.Seq.{take-append_seam, drop-append_seam}
 use Rattle.page.specs.Sheet.{count}
 use Rattle.page.specs.Refusals.{refusal, unless}
 use Rattle.page.specs.SheetLine.{lines, fault}
-use Rattle.page.specs.SheetText.{Said, Text, bad-line, well-formed, text_of, sheet_in, to_read, Outcome, refused, accepted, outcome_of, outcome}
+use Rattle.page.specs.SheetText.{Said, Text, bad_line, well_formed, text_of, sheet_in, to_read, Outcome, refused, accepted, outcome_of, outcome}
 use Rattle.page.specs.ReadFacts.{number_of}
 use Rattle.page.specs.FaultFacts.{FaultAt}
 use Rattle.page.proofs.ReadFacts.{as_many_coefficients, read_table, read_never}
@@ -58,8 +58,8 @@ reading_field text r h = let c = (reading_line text r h).0 in rw h (by (ltb 8_19
     by : (long : Bool) (t : Text) → text_of (lines text) ≡ t → let r : Reading = reading_of (cond long (refused 11 0 0) (outcome_of t)) in
         (14 ≤ r.refusal → 1 ≤ r.line) → 14 ≤ r.refusal → FaultAt (length (lines text)) r.line (fault r.refusal r.field)
     by true t e c k = absurd (omega arith)
-    by false (bad-line n f) e c k = fault_placed (lines text) n f e
-    by false (well-formed w) e c k = let l = lineless (refusal (to_read w)) w in let m = c k in absurd (omega arith)
+    by false (bad_line n f) e c k = fault_placed (lines text) n f e
+    by false (well_formed w) e c k = let l = lineless (refusal (to_read w)) w in let m = c k in absurd (omega arith)
 
 pub reading_sheet : ReadingSheet
 unfolding reading

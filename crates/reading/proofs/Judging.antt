@@ -1,4 +1,4 @@
--- A well-formed text judged: the gathered coefficients are those of its terms, and the call's number is the text's.
+-- A well_formed text judged: the gathered coefficients are those of its terms, and the call's number is the text's.
 use mathlib.Core.Path.{◌≡◌, sym, ◌∙◌, ap}
 use mathlib.Core.List.{List, ◌++◌}
 use Prim.Native.Nat.{ℕ, ◌-◌, ◌≤◌}
@@ -7,7 +7,7 @@ use lib.IntN.{ℤ, pos}
 use lib.ListN.{length, get_or, take, replicate, length-append}
 use Rattle.page.specs.Sheet.{count, sheet_of}
 use Rattle.page.specs.Refusals.{refusal, unless}
-use Rattle.page.specs.SheetText.{Term, coefficient_of, Said, in_order, to_read, well-formed, refused, accepted, outcome_of}
+use Rattle.page.specs.SheetText.{Term, coefficient_of, Said, in_order, to_read, well_formed, refused, accepted, outcome_of}
 use Rattle.page.specs.Steps.{mode_refusal}
 use Rattle.page.proofs.Order.{order_long, order_cong, order_first}
 use Rattle.page.proofs.Rows.{unless_refused, unless_none}
@@ -23,10 +23,10 @@ gathered_long d values = let l = length-append (in_order d (table_at values)) (r
 
 -- ---- a refusal, or the whole sheet, by the number
 module _ (w : Said) {n : ℕ} (number : n ≡ refusal (to_read w)) where
-  pub judged_refused : (n ≡ 0 → ⊥) → reading_of (refused n 0 0) ≡ reading_of (outcome_of (well-formed w))
+  pub judged_refused : (n ≡ 0 → ⊥) → reading_of (refused n 0 0) ≡ reading_of (outcome_of (well_formed w))
   judged_refused h = ap reading_of (unless_refused (λ m. refused m 0 0) (accepted w) n h ∙ ap (λ m. unless m (λ m. refused m 0 0) (accepted w)) number)
 
-  pub judged_accepted : n ≡ 0 → reading_of (accepted w) ≡ reading_of (outcome_of (well-formed w))
+  pub judged_accepted : n ≡ 0 → reading_of (accepted w) ≡ reading_of (outcome_of (well_formed w))
   judged_accepted e = ap reading_of (unless_none (λ m. refused m 0 0) (accepted w) (refusal (to_read w)) (sym number ∙ e))
 
 -- a sheet as it is read
@@ -36,15 +36,15 @@ sheet_read h l = record { refusal = 0; line = 0; field = 0; d = h.d; x = h.x; y 
 -- ---- the table holds the terms
 module _ (h : Head) (values : List ℤ) (ts : List Term) (held : (i j : ℕ) → i ≤ 8 → j ≤ 8 → get_or values (place_of i j) (pos 0) ≡ coefficient_of ts i j) (degree : h.d ≤ 8)
     {coefficients : List ℤ} (all : coefficients ≡ gathered_from h.d values) where
-  gathered-is : coefficients ≡ in_order h.d (coefficient_of ts) ++ replicate (45 - count h.d) (pos 0)
-  gathered-is = all ∙ ap (λ l. l ++ replicate (45 - count h.d) (pos 0)) (order_cong h.d (λ i j m. held i j (omega arith) (omega arith)))
+  gathered_is : coefficients ≡ in_order h.d (coefficient_of ts) ++ replicate (45 - count h.d) (pos 0)
+  gathered_is = all ∙ ap (λ l. l ++ replicate (45 - count h.d) (pos 0)) (order_cong h.d (λ i j m. held i j (omega arith) (omega arith)))
 
   pub number_is : {n : ℕ} → n ≡ mode_refusal (sheet_of h.d (take (count h.d) coefficients) h.x h.y h.s h.k) h.mode → n ≡ refusal (to_read (said_by h ts))
   number_is e =
       e ∙ ap (λ l. mode_refusal (sheet_of h.d l h.x h.y h.s h.k) h.mode)
-      (ap (take (count h.d)) gathered-is ∙ order_first h.d (coefficient_of ts) (replicate (45 - count h.d) (pos 0)))
+      (ap (take (count h.d)) gathered_is ∙ order_first h.d (coefficient_of ts) (replicate (45 - count h.d) (pos 0)))
       ∙ sym (read_rows (said_by h ts))
 
   -- the whole sheet
   pub reading_is : sheet_read h coefficients ≡ reading_of (accepted (said_by h ts))
-  reading_is = ap (sheet_read h) gathered-is
+  reading_is = ap (sheet_read h) gathered_is

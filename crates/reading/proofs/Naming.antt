@@ -11,7 +11,7 @@ use lib.ListN.{length, get_or, set, take, drop, length-set}
 use lib.Seq.{drop-length, get_or-take, take_all}
 use Rattle.algebra.proofs.Choice.{choice, cond_when}
 use Rattle.page.specs.SheetLine.{Line, lines, fault, Numbers, good, worths, line_numbers, number_at, whole_at}
-use Rattle.page.specs.SheetText.{Term, term_of, is_named, is_beyond, Said, Text, bad-line, with_line, term_numbers, with_terms, terms_from}
+use Rattle.page.specs.SheetText.{Term, term_of, is_named, is_beyond, Said, Text, bad_line, with_line, term_numbers, with_terms, terms_from}
 use Rattle.lines.specs.declared.Taken.{Taken}
 use Rattle.lines.specs.Steps.{unless_fault, TakenLine, LineTaken}
 use Rattle.lines.proofs.Taking.{by_fault}
@@ -106,7 +106,7 @@ module _ (text : List ℕ) (at : ℕ) (inside : at < length text) (d : ℕ) {r :
         ap (terms_from n w) here.here ∙ ap (λ m. with_line n (term_numbers m w.terms here.line) (λ zs. rest zs here.more)) q
         ∙ ap (λ ns. with_line n ns (λ zs. rest zs here.more)) (term_told w.terms tables)
         ∙ by_fault n e.number e.field r.values (λ zs. rest zs here.more)
-        ∙ cond_when (eqb e.number 0) (bad-line n (fault e.number e.field))
+        ∙ cond_when (eqb e.number 0) (bad_line n (fault e.number e.field))
         (λ z. let (f, g, _) = well r d named (eqb-true e.number 0 z) in ap (rest r.values) (here.after f ∙ ap (λ m. lines (drop m text)) (sym g)));
     kept = kept;
     long = long;

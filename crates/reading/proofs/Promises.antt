@@ -8,7 +8,7 @@ use lib.Dec.{ltb, eqb}
 use lib.IntN.{ℤ}
 use lib.ListN.{length}
 use Rattle.page.specs.SheetLine.{lines, fault}
-use Rattle.page.specs.SheetText.{Text, bad-line, well-formed, text_of, refused, outcome_of, outcome}
+use Rattle.page.specs.SheetText.{Text, bad_line, well_formed, text_of, refused, outcome_of, outcome}
 use Rattle.reading.specs.declared.Reading.{Reading}
 use Rattle.reading.specs.declared.Fault.{Fault}
 use Rattle.reading.specs.declared.Head.{Head}
@@ -26,20 +26,20 @@ module _ (text : List ℕ) where
   too_long h e = let l : ltb 8_192 (length text) ≡ true = lt-ltb 8_192 (length text) h in e ∙ rw l
 
   module _ (short : length text ≤ 8_192) where
-    by-text : (t : Text) → text_of (lines text) ≡ t → {r : Reading} → r ≡ reading_of (outcome_of t) → ReadPromise text r
+    by_text : (t : Text) → text_of (lines text) ≡ t → {r : Reading} → r ≡ reading_of (outcome_of t) → ReadPromise text r
     unfolding outcome reading
-    by-text t f e = let l : ltb 8_192 (length text) ≡ false = le-ltb 8_192 (length text) short in e ∙ rw (l, f)
+    by_text t f e = let l : ltb 8_192 (length text) ≡ false = le-ltb 8_192 (length text) short in e ∙ rw (l, f)
 
     module _ {h : Head} (k : HeadRead text h) where
       pub bad_opening : (h.number ≡ 0 → ⊥) → {r : Reading} → r ≡ reading_of (refused h.number h.line h.field) → ReadPromise text r
-      bad_opening z e = let n : eqb h.number 0 ≡ false = ne_eqb h.number 0 z in by-text (bad-line h.line (fault h.number h.field)) (k.read ∙ rw n) e
+      bad_opening z e = let n : eqb h.number 0 ≡ false = ne_eqb h.number 0 z in by_text (bad_line h.line (fault h.number h.field)) (k.read ∙ rw n) e
 
       module _ (g : h.number ≡ 0) {values : List ℤ} {f : Fault} (t : TermsRead text h.next h.d values f) where
-        told : text_of (lines text) ≡ cond (eqb f.number 0) (well-formed (said_by h t.terms)) (bad-line f.line (fault f.number f.field))
+        told : text_of (lines text) ≡ cond (eqb f.number 0) (well_formed (said_by h t.terms)) (bad_line f.line (fault f.number f.field))
         told = let n : eqb h.number 0 ≡ true = eq-eqb h.number 0 g in k.read ∙ rw n (t.read (said_by h []) refl refl)
 
         pub bad_term : (f.number ≡ 0 → ⊥) → {r : Reading} → r ≡ reading_of (refused f.number f.line f.field) → ReadPromise text r
-        bad_term z e = let n : eqb f.number 0 ≡ false = ne_eqb f.number 0 z in by-text (bad-line f.line (fault f.number f.field)) (told ∙ rw n) e
+        bad_term z e = let n : eqb f.number 0 ≡ false = ne_eqb f.number 0 z in by_text (bad_line f.line (fault f.number f.field)) (told ∙ rw n) e
 
         pub well_read : f.number ≡ 0 → {r : Reading} → Judged h values r → ReadPromise text r
-        well_read z j = let n : eqb f.number 0 ≡ true = eq-eqb f.number 0 z in by-text (well-formed (said_by h t.terms)) (told ∙ rw n) (j t.terms (t.held z))
+        well_read z j = let n : eqb f.number 0 ≡ true = eq-eqb f.number 0 z in by_text (well_formed (said_by h t.terms)) (told ∙ rw n) (j t.terms (t.held z))

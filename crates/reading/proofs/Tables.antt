@@ -60,15 +60,15 @@ module _ (d i j : ℕ) where
 
   -- and else by the mark at its own place
   module _ (h : i ≤ 8) (k : j ≤ 8) (l : i + j ≤ d) (named : List ℕ) {at : ℕ} (here : at ≡ place_of i j) where
-    not-18 : term_fault_in d i j named ≡ cond (eqb (get_or named at 0) 0) 0 19
+    not_18 : term_fault_in d i j named ≡ cond (eqb (get_or named at 0) 0) 0 19
     unfolding term_fault_in
-    not-18 = let a = le-ltb d (i + j) l in let b = le-ltb 8 i h in let c = le-ltb 8 j k in rw (a, b, c) (ap (λ n. cond (eqb (get_or named n 0) 0) 0 19) (sym here))
+    not_18 = let a = le-ltb d (i + j) l in let b = le-ltb 8 i h in let c = le-ltb 8 j k in rw (a, b, c) (ap (λ n. cond (eqb (get_or named n 0) 0) 0 19) (sym here))
 
     pub marked_19 : (get_or named at 0 ≡ 0 → ⊥) → 19 ≡ term_fault_in d i j named
-    marked_19 n = sym (not-18 ∙ ap (λ b. cond b 0 19) (ne_eqb (get_or named at 0) 0 n))
+    marked_19 n = sym (not_18 ∙ ap (λ b. cond b 0 19) (ne_eqb (get_or named at 0) 0 n))
 
     pub unmarked_0 : get_or named at 0 ≡ 0 → 0 ≡ term_fault_in d i j named
-    unmarked_0 e = sym (not-18 ∙ ap (λ b. cond b 0 19) (eq-eqb (get_or named at 0) 0 e))
+    unmarked_0 e = sym (not_18 ∙ ap (λ b. cond b 0 19) (eq-eqb (get_or named at 0) 0 e))
 
   -- a term with no fault has its place in the tables
   pub faultless : (named : List ℕ) → term_fault_in d i j named ≡ 0 → (i ≤ 8) × (j ≤ 8)

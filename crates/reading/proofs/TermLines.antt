@@ -36,18 +36,18 @@ module _ (beyond twice : Bool) (rest : Numbers) where
   abbrev first_field : Bool → Bool → Numbers → Numbers
   first_field w i r = cond (not w) (faulty (fault 16 2)) (cond (not i) (faulty (fault 17 2)) r)
 
-  abbrev second-field : Bool → Bool → Numbers
-  second-field w i = cond (not w) (faulty (fault 16 3)) (cond (not i) (faulty (fault 17 3)) rest)
+  abbrev second_field : Bool → Bool → Numbers
+  second_field w i = cond (not w) (faulty (fault 16 3)) (cond (not i) (faulty (fault 17 3)) rest)
 
-  by-fields : (w0 i0 w1 i1 c : Bool) →
-      first_field w0 i0 (cond ((w0 && i0) && (w1 && i1) && beyond) (faulty (fault 18 2)) (cond ((w0 && i0) && (w1 && i1) && twice) (faulty (fault 19 2)) (second-field w1 i1)))
-      ≡ as_term (leb 2 (cond (w0 && i0) (suc (cond (w1 && i1) (suc (cond c 1 0)) 0)) 0)) beyond twice (first_field w0 i0 (second-field w1 i1))
-  by-fields true true true true true = refl
-  by-fields true true true true false = refl
-  by-fields true true true false c = refl
-  by-fields true true false i1 c = refl
-  by-fields true false w1 i1 c = refl
-  by-fields false i0 w1 i1 c = refl
+  by_fields : (w0 i0 w1 i1 c : Bool) →
+      first_field w0 i0 (cond ((w0 && i0) && (w1 && i1) && beyond) (faulty (fault 18 2)) (cond ((w0 && i0) && (w1 && i1) && twice) (faulty (fault 19 2)) (second_field w1 i1)))
+      ≡ as_term (leb 2 (cond (w0 && i0) (suc (cond (w1 && i1) (suc (cond c 1 0)) 0)) 0)) beyond twice (first_field w0 i0 (second_field w1 i1))
+  by_fields true true true true true = refl
+  by_fields true true true true false = refl
+  by_fields true true true false c = refl
+  by_fields true true false i1 c = refl
+  by_fields true false w1 i1 c = refl
+  by_fields false i0 w1 i1 c = refl
 
 -- where letter or count is wrong, nothing is read
 by_count : (letter count beyond twice : Bool) (n : ℕ) (x y : Numbers) → (count ≡ true → x ≡ as_term (leb 2 n) beyond twice y)
@@ -70,7 +70,7 @@ term_numbers_are d ts l = by_count (is_letter 84 (letter_field l)) (eqb (length 
     by [] e beyond twice = absurd (omega arith)
     by (f ∷ []) e beyond twice = absurd (omega arith)
     by (f ∷ g ∷ []) e beyond twice = absurd (omega arith)
-    by (f ∷ g ∷ h ∷ []) e beyond twice = by-fields beyond twice _ (is_written f) (is_within unsigned (worth f)) (is_written g) (is_within unsigned (worth g)) (reads_well signed h)
+    by (f ∷ g ∷ h ∷ []) e beyond twice = by_fields beyond twice _ (is_written f) (is_within unsigned (worth f)) (is_written g) (is_within unsigned (worth g)) (reads_well signed h)
     by (f ∷ g ∷ h ∷ k ∷ fs) e beyond twice = absurd (omega arith)
 
 -- ---- a line that has no fault has all its numbers read

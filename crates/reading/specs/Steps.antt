@@ -2,7 +2,7 @@
 use Rattle.std.specs.Prelude.{◌≡◌, not, ◌&&◌, cond, List, [], ◌∷◌, ◌++◌, ℕ, ◌+◌, ◌*◌, ◌-◌, ◌≤◌, ◌<◌, leb, eqb, ℤ, pos, length, get_or, drop, replicate}
 use Rattle.page.specs.Sheet.{count}
 use Rattle.page.specs.SheetLine.{lines, fault, number_at, whole_at}
-use Rattle.page.specs.SheetText.{Term, is_named, is_beyond, coefficient_of, Said, bad-line, well-formed, with_terms, terms_from, text_of, in_order, outcome_of}
+use Rattle.page.specs.SheetText.{Term, is_named, is_beyond, coefficient_of, Said, bad_line, well_formed, with_terms, terms_from, text_of, in_order, outcome_of}
 use Rattle.lines.specs.declared.Taken.{Taken}
 use Rattle.reading.specs.declared.Fault.{Fault}
 use Rattle.reading.specs.declared.Entered.{Entered}
@@ -23,7 +23,7 @@ abbrev pub head_faulty : ℕ → Taken → Head
 head_faulty line taken = record { number = taken.fault; line = line; field = taken.field; next = 0; d = 0; x = pos 0; y = pos 0; s = 0; k = 0; mode = 0 }
 
 pub record HeadRead (text : List ℕ) (h : Head) : Type 0 where
-  pub read : text_of (lines text) ≡ cond (eqb h.number 0) (terms_from 5 (said_by h []) (lines (drop h.next text))) (bad-line h.line (fault h.number h.field))
+  pub read : text_of (lines text) ≡ cond (eqb h.number 0) (terms_from 5 (said_by h []) (lines (drop h.next text))) (bad_line h.line (fault h.number h.field))
   pub within : h.next ≤ length text
 
 -- ---- `term_fault`: the entries of the term i, j stand at 9i + j
@@ -50,7 +50,7 @@ pub record Tables (ts : List Term) (values : List ℤ) (named : List ℕ) : Type
 pub record TermTaken (text : List ℕ) (at d : ℕ) (values values' : List ℤ) (named named' : List ℕ) (r : Entered) : Type 0 where
   pub term : Term
   pub step : (n : ℕ) (w : Said) → w.d ≡ d → Tables w.terms values named
-      → terms_from n w (lines (drop at text)) ≡ cond (eqb r.number 0) (terms_from (n + 1) (with_terms w (term ∷ w.terms)) (lines (drop r.next text))) (bad-line n (fault r.number r.field))
+      → terms_from n w (lines (drop at text)) ≡ cond (eqb r.number 0) (terms_from (n + 1) (with_terms w (term ∷ w.terms)) (lines (drop r.next text))) (bad_line n (fault r.number r.field))
   pub kept : (ts : List Term) → Tables ts values named → r.number ≡ 0 → Tables (term ∷ ts) values' named'
   pub long : (length values' ≡ 81) × (length named' ≡ 81)
   pub within : r.next ≤ length text
@@ -59,7 +59,7 @@ pub record TermTaken (text : List ℕ) (at d : ℕ) (values values' : List ℤ) 
 -- ---- `read_terms`
 pub record TermsRead (text : List ℕ) (from d : ℕ) (values : List ℤ) (r : Fault) : Type 0 where
   pub terms : List Term
-  pub read : (w : Said) → w.d ≡ d → w.terms ≡ [] → terms_from 5 w (lines (drop from text)) ≡ cond (eqb r.number 0) (well-formed (with_terms w terms)) (bad-line r.line (fault r.number r.field))
+  pub read : (w : Said) → w.d ≡ d → w.terms ≡ [] → terms_from 5 w (lines (drop from text)) ≡ cond (eqb r.number 0) (well_formed (with_terms w terms)) (bad_line r.line (fault r.number r.field))
   pub held : r.number ≡ 0 → (i j : ℕ) → i ≤ 8 → j ≤ 8 → get_or values (place_of i j) (pos 0) ≡ coefficient_of terms i j
   pub long : length values ≡ 81
 
@@ -72,4 +72,4 @@ gathered_from d values = in_order d (table_at values) ++ replicate (45 - count d
 
 -- `judged`: whatever the terms that the table holds
 abbrev pub Judged : Head → List ℤ → Reading → Type 0
-Judged h values r = (ts : List Term) → ((i j : ℕ) → i ≤ 8 → j ≤ 8 → get_or values (place_of i j) (pos 0) ≡ coefficient_of ts i j) → r ≡ reading_of (outcome_of (well-formed (said_by h ts)))
+Judged h values r = (ts : List Term) → ((i j : ℕ) → i ≤ 8 → j ≤ 8 → get_or values (place_of i j) (pos 0) ≡ coefficient_of ts i j) → r ≡ reading_of (outcome_of (well_formed (said_by h ts)))

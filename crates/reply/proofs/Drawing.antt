@@ -96,16 +96,16 @@ pub deep : {sheet : Reading} → FromText sheet → sheet.k ≤ 7
 deep f = subst (λ r. r.k ≤ 7) (sym f.read) (depth f.said f.passed)
 
 module _ {sheet : Reading} (w : Said) (passed : refusal (to_read w) ≡ 0) (read : sheet ≡ reading_of (accepted w)) where
-  count-is : {m : ℕ} → m ≡ 4 ^ sheet.k → m ≡ 4 ^ w.k
-  count-is e = e ∙ ap (λ s. 4 ^ s.k) read
+  count_is : {m : ℕ} → m ≡ 4 ^ sheet.k → m ≡ 4 ^ w.k
+  count_is e = e ∙ ap (λ s. 4 ^ s.k) read
 
   module _ (old : List ℕ) {now : List ℕ} (long : length old ≡ 16_384) {t : Tallied} (p : RasterPromise (sheet_in w) w.mode old t now) {m : ℕ} (e : m ≡ 4 ^ sheet.k) where
     pub count_within : m ≤ length now
-    count_within = subst (λ n. n ≤ length now) (sym (count-is e)) (cells_within w passed old long p)
+    count_within = subst (λ n. n ≤ length now) (sym (count_is e)) (cells_within w passed old long p)
 
-    first-ones : take m now ≡ cells w passed
-    first-ones = ap (λ n. take n now) (count-is e) ∙ first_cells w passed old long p
+    first_ones : take m now ≡ cells w passed
+    first_ones = ap (λ n. take n now) (count_is e) ∙ first_cells w passed old long p
 
     pub printed_from : (place : List ℕ) {place' : List ℕ} {r : Printed} → PrintPromise sheet.k (take m now) place r place' → PrintPromise w.k (cells w passed) place r place'
     printed_from place {place'} {r} q =
-        subst (λ k. PrintPromise k (cells w passed) place r place') (ap (λ s. s.k) read) (subst (λ bytes. PrintPromise sheet.k bytes place r place') first-ones q)
+        subst (λ k. PrintPromise k (cells w passed) place r place') (ap (λ s. s.k) read) (subst (λ bytes. PrintPromise sheet.k bytes place r place') first_ones q)

@@ -8,7 +8,7 @@ use lib.Dec.{ltb}
 use lib.ListN.{length}
 use Rattle.page.specs.Refusals.{refusal, unless}
 use Rattle.page.specs.SheetLine.{lines}
-use Rattle.page.specs.SheetText.{Said, Text, bad-line, well-formed, text_of, to_read, Outcome, refused, accepted, outcome_of, outcome}
+use Rattle.page.specs.SheetText.{Said, Text, bad_line, well_formed, text_of, to_read, Outcome, refused, accepted, outcome_of, outcome}
 use Rattle.page.specs.ListingText.{refused_line}
 use Rattle.page.proofs.ReadFacts.{read_never}
 use Rattle.reading.specs.declared.Reading.{Reading}
@@ -31,8 +31,8 @@ abbrev Numbered : Outcome → Type 0
 Numbered o = (n line field : ℕ) → o ≡ refused n line field → n ≡ 0 → ⊥
 
 kept_text : (t : Text) → Numbered (outcome_of t) → Kept (outcome_of t)
-kept_text (bad-line n f) h = h f.number n f.field refl
-kept_text (well-formed w) h = kept_by w (refusal (to_read w)) refl
+kept_text (bad_line n f) h = h f.number n f.field refl
+kept_text (well_formed w) h = kept_by w (refusal (to_read w)) refl
 
 kept : (text : List ℕ) → Kept (outcome text)
 unfolding outcome
@@ -58,19 +58,19 @@ module _ (text : List ℕ) {sheet : Reading} (e : ReadPromise text sheet) where
 
 -- ---- what is told of a text: of a refusal its line, of an accepted one what is told of its sheet
 module _ (told : Outcome → List ℕ) (refusals : (n line field : ℕ) → told (refused n line field) ≡ refused_line n line field) {old now : List ℕ} {r : ℕ} where
-  accepted-after : (o : Outcome) → Kept o → (reading_of o).refusal ≡ 0 → Tells told (reading_of o) old now r → Put 0 (told o) old now r
-  accepted-after (refused n line field) k e f = absurd (k e)
-  accepted-after (accepted w) k e f = f w k refl
+  accepted_after : (o : Outcome) → Kept o → (reading_of o).refusal ≡ 0 → Tells told (reading_of o) old now r → Put 0 (told o) old now r
+  accepted_after (refused n line field) k e f = absurd (k e)
+  accepted_after (accepted w) k e f = f w k refl
 
   pub accepted_text : (text : List ℕ) {sheet : Reading} → ReadPromise text sheet → sheet.refusal ≡ 0 → Tells told sheet old now r → Put 0 (told (outcome text)) old now r
-  accepted_text text e z f = let s = is_read text e in accepted-after (outcome text) (kept text) (sym (ap (λ t. t.refusal) s) ∙ z) (λ w p q. f w p (s ∙ q))
+  accepted_text text e z f = let s = is_read text e in accepted_after (outcome text) (kept text) (sym (ap (λ t. t.refusal) s) ∙ z) (λ w p q. f w p (s ∙ q))
 
-  refused-after : (o : Outcome) → ((reading_of o).refusal ≡ 0 → ⊥) → Put 0 (refused_line (reading_of o).refusal (reading_of o).line (reading_of o).field) old now r → Put 0 (told o) old now r
-  refused-after (refused n line field) h p = subst (λ bytes. Put 0 bytes old now r) (sym (refusals n line field)) p
-  refused-after (accepted w) h p = absurd (h refl)
+  refused_after : (o : Outcome) → ((reading_of o).refusal ≡ 0 → ⊥) → Put 0 (refused_line (reading_of o).refusal (reading_of o).line (reading_of o).field) old now r → Put 0 (told o) old now r
+  refused_after (refused n line field) h p = subst (λ bytes. Put 0 bytes old now r) (sym (refusals n line field)) p
+  refused_after (accepted w) h p = absurd (h refl)
 
   pub refused_text : (text : List ℕ) {sheet : Reading} → ReadPromise text sheet → (sheet.refusal ≡ 0 → ⊥)
       → Put 0 (refused_line sheet.refusal sheet.line sheet.field) old now r → Put 0 (told (outcome text)) old now r
   refused_text text e h p =
       let s = is_read text e in
-      refused-after (outcome text) (λ z. h (ap (λ t. t.refusal) s ∙ z)) (subst (λ t. Put 0 (refused_line t.refusal t.line t.field) old now r) s p)
+      refused_after (outcome text) (λ z. h (ap (λ t. t.refusal) s ∙ z)) (subst (λ t. Put 0 (refused_line t.refusal t.line t.field) old now r) s p)

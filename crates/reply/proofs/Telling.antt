@@ -39,8 +39,8 @@ is_refused (Listed.Refused n) = true
 
 -- ---- the sheet that is walked is the one that the text says
 module _ {sheet : Reading} (w : Said) (read : sheet ≡ reading_of (accepted w)) where
-  same-sheet : sheet_of sheet.d (take (count sheet.d) sheet.coefficients) sheet.x sheet.y sheet.s sheet.k ≡ sheet_in w
-  same-sheet =
+  same_sheet : sheet_of sheet.d (take (count sheet.d) sheet.coefficients) sheet.x sheet.y sheet.s sheet.k ≡ sheet_in w
+  same_sheet =
       ap (λ r. sheet_of r.d (take (count r.d) r.coefficients) r.x r.y r.s r.k) read
       ∙ ap (λ l. sheet_of w.d l w.X w.Y w.s w.k) (order_first w.d (coefficient_of w.terms) (replicate (45 - count w.d) (pos 0)))
 
@@ -89,8 +89,8 @@ module _ (w : Said) (passed : refusal (to_read w) ≡ 0) where
     as_long : length now ≡ 16_384
     as_long = let f = few in let a = length-append told (drop (length told) old) in let d = length-drop (length told) old in ap length left ∙ omega (arith, f, a, d)
 
-    first-ones : take (length told) now ≡ told
-    first-ones = ap (take (length told)) left ∙ take_at told (drop (length told) old) (length told) refl
+    first_ones : take (length told) now ≡ told
+    first_ones = ap (take (length told)) left ∙ take_at told (drop (length told) old) (length told) refl
 
     -- there is no refusal
     pub not_refused : {n : ℕ} → r ≡ Listed.Refused n → ⊥
@@ -104,7 +104,7 @@ module _ (w : Said) (passed : refusal (to_read w) ≡ 0) where
       long_as = ap (λ r. (states_listing r).length) same
 
       first : take l now ≡ told
-      first = ap (λ n. take n now) long_as ∙ first-ones
+      first = ap (λ n. take n now) long_as ∙ first_ones
 
       pub within : l ≤ length now
       within = let f = few in let a = long_as in let b = as_long in omega (arith, a, f, b)
@@ -128,7 +128,7 @@ small f = subst (λ r. r.d ≤ 8) (sym f.read) (degree f.said f.passed)
 -- what is true of the sheet that is walked is true of the one that the text says
 pub of_said : (P : Sheet → ℕ → Type 0) {sheet : Reading} (w : Said) → sheet ≡ reading_of (accepted w)
     → P (sheet_of sheet.d (take (count sheet.d) sheet.coefficients) sheet.x sheet.y sheet.s sheet.k) sheet.mode → P (sheet_in w) w.mode
-of_said P {sheet} w e p = subst (P (sheet_in w)) (ap (λ t. t.mode) e) (subst (λ S. P S sheet.mode) (same-sheet w e) p)
+of_said P {sheet} w e p = subst (P (sheet_in w)) (ap (λ t. t.mode) e) (subst (λ S. P S sheet.mode) (same_sheet w e) p)
 
 pub listed_from : {sheet : Reading} (w : Said) → sheet ≡ reading_of (accepted w) → (old : List ℕ) {now : List ℕ} {r : Listed}
     → ListingPromise (sheet_of sheet.d (take (count sheet.d) sheet.coefficients) sheet.x sheet.y sheet.s sheet.k) sheet.mode old r now → ListingPromise (sheet_in w) w.mode old r now

@@ -43,8 +43,8 @@ module _ (k : ℕ) (raster old : List ℕ) {n : ℕ} {now : List ℕ} (p : Print
   unfolding printed_place
   left = p.2 ∙ sym (unless_none (λ n. old) _ _ told.0)
 
-  text-is : take n now ≡ picture_text k raster
-  text-is = ap₂ take told.1 left ∙ take_at (picture_text k raster) _ _ refl
+  text_is : take n now ≡ picture_text k raster
+  text_is = ap₂ take told.1 left ∙ take_at (picture_text k raster) _ _ refl
 
   -- ---- so what is read is its picture
   back : Returned k raster
@@ -64,7 +64,7 @@ module _ (k : ℕ) (raster old : List ℕ) {n : ℕ} {now : List ℕ} (p : Print
 
   module _ (place : List ℕ) {r : Scanned} {after : List ℕ} (q : ScanPromise (take n now) place r after) where
     read : (r ≡ scanned (plain picture) (length place)) × (after ≡ scanned_place (plain picture) place)
-    read = let s = q (plain picture) (subst (λ t. IsPlain t picture) (sym text-is) back.plain) in (s.0, s.2)
+    read = let s = q (plain picture) (subst (λ t. IsPlain t picture) (sym text_is) back.plain) in (s.0, s.2)
 
     accepted : 4 ^ k ≤ length place → (r ≡ Scanned.Depth k) × (after ≡ raster_mask k raster ++ drop (4 ^ k) place)
     unfolding scanned scanned_place

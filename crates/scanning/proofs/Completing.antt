@@ -24,8 +24,8 @@ byte_after text at h = sym (ap is_after (rest_is text at h))
 
 -- ---- n digits were looked for, as many as the picture has, but not more than 2^63
 module _ (text : List ℕ) (at width height : ℕ) (short : length text < 2 ^ 63) {n : ℕ} (told : n ≡ min (width * height) (2 ^ 63)) {r : Data} (d : DataTaken text at n r) where
-  all-taken : (w h : ℕ) → width ≡ min w (2 ^ 63) → height ≡ min h (2 ^ 63) → take_bits (w * h) (drop at text) ≡ cond r.good (complete d.bits (drop r.next text)) cut_short
-  all-taken w h e f =
+  all_taken : (w h : ℕ) → width ≡ min w (2 ^ 63) → height ≡ min h (2 ^ 63) → take_bits (w * h) (drop at text) ≡ cond r.good (complete d.bits (drop r.next text)) cut_short
+  all_taken w h e f =
       let few : length (drop at text) < 2 ^ 63 = omega (arith, length-drop at text) in
       let same : n ≡ min (w * h) (2 ^ 63) = told ∙ ap₂ (λ a b. min (a * b) (2 ^ 63)) e f ∙ ceil_* (2 ^ 63) w h in
       sym (capped (2 ^ 63) (w * h) (drop at text) few) ∙ ap (λ m. take_bits m (drop at text)) (sym same) ∙ d.step
@@ -33,14 +33,14 @@ module _ (text : List ℕ) (at width height : ℕ) (short : length text < 2 ^ 63
   pub too_few : r.good ≡ false → DataComplete text at width height false
   too_few g = record {
     step = λ w h e f.
-        let t : take_bits (w * h) (drop at text) ≡ cut_short = all-taken w h e f ∙ rw g in
+        let t : take_bits (w * h) (drop at text) ≡ cut_short = all_taken w h e f ∙ rw g in
         ap (found_in w h) t;
     many = λ w h e f z. absurd (false≢true z);
   }
 
   pub as_many : r.good ≡ true → {b : Bool} → b ≡ is_after (drop r.next text) → DataComplete text at width height b
   as_many g {b} a =
-      let taken : (w h : ℕ) → width ≡ min w (2 ^ 63) → height ≡ min h (2 ^ 63) → take_bits (w * h) (drop at text) ≡ complete d.bits (drop r.next text) = λ w h e f. all-taken w h e f ∙ rw g in
+      let taken : (w h : ℕ) → width ≡ min w (2 ^ 63) → height ≡ min h (2 ^ 63) → take_bits (w * h) (drop at text) ≡ complete d.bits (drop r.next text) = λ w h e f. all_taken w h e f ∙ rw g in
       record {
         step = λ w h e f.
             ap (found_in w h) (taken w h e f)

@@ -75,19 +75,19 @@ module _ {text : List ℕ} {at count : ℕ} where
   taking_start h = record { within = h; passed = []; step = refl }
 
   -- too few: the text ends, or a byte stands there that may not
-  taking-short : {left i : ℕ} → Taking text at count left i → take_bits left (drop i text) ≡ cut_short → {r : Data} → r.good ≡ false → r.next ≡ i → DataTaken text at count r
-  taking-short {i = i} t e {r} g n = record {
+  taking_short : {left i : ℕ} → Taking text at count left i → take_bits left (drop i text) ≡ cut_short → {r : Data} → r.good ≡ false → r.next ≡ i → DataTaken text at count r
+  taking_short {i = i} t e {r} g n = record {
     bits = [];
     step = t.step ∙ ap (with_bits t.passed) e ∙ bits_short t.passed ∙ sym (rw g);
     within = rw n t.within;
   }
 
   pub taking_none : {left i : ℕ} → Taking text at count left i → 0 < left → i ≡ length text → {r : Data} → r.good ≡ false → r.next ≡ i → DataTaken text at count r
-  taking_none {left} {i} t h e {r} g n = taking-short t (ap (take_bits left) (ap (λ m. drop m text) e ∙ drop-length text) ∙ take_none left h) g n
+  taking_none {left} {i} t h e {r} g n = taking_short t (ap (take_bits left) (ap (λ m. drop m text) e ∙ drop-length text) ∙ take_none left h) g n
 
   pub taking_other : {left i : ℕ} → Taking text at count left i → 0 < left → i < length text → {b : Bool} → b ≡ (is_bit (get_or text i 0) || is_white (get_or text i 0)) → b ≡ false
       → {r : Data} → r.good ≡ false → r.next ≡ i → DataTaken text at count r
-  taking_other {left} {i} t h l e f {r} g n = taking-short t (ap (take_bits left) (rest_is text i l) ∙ take_other left (get_or text i 0) (drop (i + 1) text) h (sym e ∙ f)) g n
+  taking_other {left} {i} t h l e f {r} g n = taking_short t (ap (take_bits left) (rest_is text i l) ∙ take_other left (get_or text i 0) (drop (i + 1) text) h (sym e ∙ f)) g n
 
   -- one byte more, a digit or white space
   pub taking_next : {left i m : ℕ} → Taking text at count left i → 0 < left → i < length text → {b : Bool} → b ≡ (is_bit (get_or text i 0) || is_white (get_or text i 0)) → b ≡ true

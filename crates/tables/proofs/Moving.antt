@@ -29,18 +29,18 @@ module _ (c : ℕ → ℤ) (s : ℤ) (n : ℕ) where
       ring (s ∷ shifted c s (pos 1) n (suc j) a ∷ shifted c s (pos 1) n (suc j) (suc a) ∷ []) (λ s y x. y ⊕ s ⊗ x ≐ x ⊗ s ⊕ y ⊗ # 1) tt ∙ sym (shifted_suc c s (pos 1) n j a l)
 
   -- nothing is added to the last one
-  step-last : (j a : ℕ) → j + a ≡ n → standing c s n j a ≡ shifted c s (pos 1) n j a
-  step-last j a e =
+  step_last : (j a : ℕ) → j + a ≡ n → standing c s n j a ≡ shifted c s (pos 1) n j a
+  step_last j a e =
       ring (standing c s n j a ∷ s ∷ []) (λ x s. x ≐ x ⊕ s ⊗ # 0) tt ∙ ap (λ x. standing c s n j a +ℤ s *ℤ x) (sym (shifted_over c s (pos 1) n (suc j) a (omega arith))) ∙ step j a (omega arith)
 
   -- the sum is at most the load
-  standing-size : (j a : ℕ) → nat_abs (standing c s n j a) ≤ load c (nat_abs s + 1) n (suc j) + nat_abs (c j)
-  standing-size j zero = omega arith
-  standing-size j (suc a) = let h = shifted_size c s (pos 1) n (suc j) a in omega arith
+  standing_size : (j a : ℕ) → nat_abs (standing c s n j a) ≤ load c (nat_abs s + 1) n (suc j) + nat_abs (c j)
+  standing_size j zero = omega arith
+  standing_size j (suc a) = let h = shifted_size c s (pos 1) n (suc j) a in omega arith
 
-  step-size : (j a : ℕ) → j ≤ n → nat_abs (standing c s n j a) + nat_abs s * nat_abs (shifted c s (pos 1) n (suc j) a) ≤ load c (nat_abs s + 1) n j
-  step-size j a l =
-      let b = load c (nat_abs s + 1) n (suc j) in let e = load_next c (nat_abs s + 1) n j l in let h = standing-size j a in
+  step_size : (j a : ℕ) → j ≤ n → nat_abs (standing c s n j a) + nat_abs s * nat_abs (shifted c s (pos 1) n (suc j) a) ≤ load c (nat_abs s + 1) n j
+  step_size j a l =
+      let b = load c (nat_abs s + 1) n (suc j) in let e = load_next c (nat_abs s + 1) n j l in let h = standing_size j a in
       let m = Nat.mul-le-mul_left (nat_abs s) (shifted_size c s (pos 1) n (suc j) a) in let k = Nat.mul_comm (nat_abs s) b in let q = Nat.mul-add b (nat_abs s) 1 in omega arith
 
 -- ---- the places from i up to n hold the rule's coefficients, and all else is as it was
@@ -57,7 +57,7 @@ module _ {first n : ℕ} {s : ℤ} {old : List ℤ} where
   moving_start = record {
     within = Nat.le_refl n;
     long = refl;
-    row = λ a l. let z : a ≡ 0 = omega arith in rw z (ap (at old) (omega arith) ∙ step-last (row_of old first) s n n 0 (Nat.add-zero n));
+    row = λ a l. let z : a ≡ 0 = omega arith in rw z (ap (at old) (omega arith) ∙ step_last (row_of old first) s n n 0 (Nat.add-zero n));
     before = λ m l. refl;
     after = λ m l. refl;
   }
@@ -79,7 +79,7 @@ module _ {first n : ℕ} {s : ℤ} {old : List ℤ} where
     moving_room m = record {
       above = omega arith;
       inside = let w = p.within in let l = p.long in let k = m.inside in omega arith;
-      light = λ a l. rw (below a (omega arith), above a (omega arith)) (Nat.lt_of_le_of_lt (step-size (row_of old first) s n i a (omega arith)) (m.light i));
+      light = λ a l. rw (below a (omega arith), above a (omega arith)) (Nat.lt_of_le_of_lt (step_size (row_of old first) s n i a (omega arith)) (m.light i));
     }
 
     -- one step down
@@ -88,7 +88,7 @@ module _ {first n : ℕ} {s : ℤ} {old : List ℤ} where
       within = let w = p.within in omega arith;
       long = q.long ∙ p.long;
       row = λ a l. let e : first + (i + a) ≡ first + i + a = omega arith in ap (at new) e ∙ elim (dec_le (n - i) a) [
-        | yes o ↦ q.after (first + i + a) (omega arith) ∙ below a l ∙ step-last (row_of old first) s n i a (omega arith)
+        | yes o ↦ q.after (first + i + a) (omega arith) ∙ below a l ∙ step_last (row_of old first) s n i a (omega arith)
         | no o ↦ q.run a (omega arith) ∙ ap₂ (λ x y. x +ℤ s *ℤ y) (below a l) (above a (omega arith)) ∙ step (row_of old first) s n i a (omega arith)
       ];
       before = λ m l. q.before m l ∙ p.before m (omega arith);

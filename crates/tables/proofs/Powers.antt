@@ -31,8 +31,8 @@ module _ {d : ℕ} {R : ℕ → ℕ → ℤ} {old places : List ℤ} {first i : 
   all_set : d < i → (a b : ℕ) → a + b ≤ d → held places d a b ≡ R a b
   all_set h a b l = sym (ap (at places) (Nat.zero-add (place d a b))) ∙ (setting_end h p).0 a b l
 
-  all-kept : d < i → (n : ℕ) → row_start d (suc d) ≤ n → at places n ≡ at old n
-  all-kept h n l = (setting_end h p).2 n (omega arith)
+  all_kept : d < i → (n : ℕ) → row_start d (suc d) ≤ n → at places n ≡ at old n
+  all_kept h n l = (setting_end h p).2 n (omega arith)
 
 -- ---- scaled
 module _ {d e f : ℕ} {old places : List ℤ} {first i : ℕ} (s : Scalable d e f old) (p : Setting 0 d (scaled d e f old) old places first i) where
@@ -52,7 +52,7 @@ module _ {d e f : ℕ} {old places : List ℤ} {first i : ℕ} (s : Scalable d e
   }
 
   pub scaled_end : d < i → Scaled d e f old places
-  scaled_end h = record { long = p.long ∙ s.long; each = all_set p h; rest = all-kept p h }
+  scaled_end h = record { long = p.long ∙ s.long; each = all_set p h; rest = all_kept p h }
 
 -- ---- halved
 module _ {d : ℕ} {old places : List ℤ} {first i : ℕ} (s : Halvable d old) (p : Setting 0 d (halved d old) old places first i) where
@@ -68,4 +68,4 @@ module _ {d : ℕ} {old places : List ℤ} {first i : ℕ} (s : Halvable d old) 
   }
 
   pub halved_end : d < i → Halved d old places
-  halved_end h = record { long = p.long ∙ s.long; each = all_set p h; rest = all-kept p h }
+  halved_end h = record { long = p.long ∙ s.long; each = all_set p h; rest = all_kept p h }

@@ -44,8 +44,8 @@ module _ {first n : ℕ} {s : ℤ} {old : List ℤ} where
     next_row a e = let h = row a e in let r = row_start_suc n a in omega arith
 
     -- what they hold
-    held-here : (a c : ℕ) → a + m ≡ n → at places (here + c) ≡ held_from old first n a c
-    held-here a c e = let h = row a e in p.after (here + c) (omega arith) ∙ ap (at old) (omega arith)
+    held_here : (a c : ℕ) → a + m ≡ n → at places (here + c) ≡ held_from old first n a c
+    held_here a c e = let h = row a e in p.after (here + c) (omega arith) ∙ ap (at old) (omega arith)
 
     held_next : (a c : ℕ) → a + m ≡ n → at places (here + m + 1 + c) ≡ held_from old first n (suc a) c
     held_next a c e = let h = next_row a e in p.after (here + m + 1 + c) (omega arith) ∙ ap (at old) (omega arith)
@@ -55,7 +55,7 @@ module _ {first n : ℕ} {s : ℤ} {old : List ℤ} where
       above = omega arith;
       inside = let h = next_row (n - m) (omega arith) in let e = row_start_suc n (suc (n - m)) in let g : row_start n (suc (suc (n - m))) ≤ row_start n (suc n) = row_start_mono n (omega arith) in
           let l = r.inside in let q = p.long in omega arith;
-      light = λ c i. rw (held-here (n - m) c (omega arith), held_next (n - m) c (omega arith)) (r.light (n - m) c (omega arith));
+      light = λ c i. rw (held_here (n - m) c (omega arith), held_next (n - m) c (omega arith)) (r.light (n - m) c (omega arith));
     }
 
     pub rowwise_next : {new : List ℤ} → Added here (here + m + 1) m s places new → Rowwise first n s old new (here + (m + 1)) (m - 1)
@@ -66,7 +66,7 @@ module _ {first n : ℕ} {s : ℤ} {old : List ℤ} where
       added = λ a b i j. elim (dec_le n (a + m)) [
         | yes k ↦
             let e : a + m ≡ n = omega arith in let h = row a e in
-            ap (at new) (omega arith) ∙ d.run b (omega arith) ∙ ap₂ (λ x y. x +ℤ s *ℤ y) (held-here a b e) (held_next a b e)
+            ap (at new) (omega arith) ∙ d.run b (omega arith) ∙ ap₂ (λ x y. x +ℤ s *ℤ y) (held_here a b e) (held_next a b e)
         | no k ↦ d.before (first + place n a b) (below a b (omega arith) (omega arith)) ∙ p.added a b (omega arith) j
       ];
       last = λ a b i. elim (dec_le n (a + m)) [

@@ -68,8 +68,8 @@ module _ (d : ℕ) (places : List ℤ) (v : ℤ) (a b : ℕ) (w : nat_abs v ≤ 
       Nat.le_trans (Nat.mul-le-mul_right (a ^ i) r) (Nat.le_of_eq (Nat.mul_comm _ (a ^ i) ∙ *-sumℕ (a ^ i) (0 ⋯ (d - i)) (λ j. nat_abs (held places d i j) * b ^ j)
       ∙ sumℕ_cong (0 ⋯ (d - i)) (λ j k. Nat.mul_left_comm (a ^ i) (nat_abs (held places d i j)) (b ^ j))))
 
-  values-size : sumℕ (0 ⋯ d) (λ i. nat_abs (row_values places d v i) * a ^ i) ≤ triangle d (λ i j. nat_abs (held places d i j) * (a ^ i * b ^ j))
-  values-size = sumℕ_mono (0 ⋯ d) (λ i k. one_value i)
+  values_size : sumℕ (0 ⋯ d) (λ i. nat_abs (row_values places d v i) * a ^ i) ≤ triangle d (λ i j. nat_abs (held places d i j) * (a ^ i * b ^ j))
+  values_size = sumℕ_mono (0 ⋯ d) (λ i k. one_value i)
 
 -- ---- after n rows
 pub record Rising (places : List ℤ) (d : ℕ) (u v z : ℤ) (first n : ℕ) : Type 0 where
@@ -106,7 +106,7 @@ module _ {places : List ℤ} {d : ℕ} {u v : ℤ} where
         }
 
     pub rising_room : Valuable d u v places → Room z u (row_value places (first - (n + 1)) n v) (pos 1)
-    rising_room s = rw value_at (descent_room (omega arith) s.wide.1 s.wide.0 (Nat.lt_of_le_of_lt (values-size d places v s.a s.b s.wide.3) s.light) p.value)
+    rising_room s = rw value_at (descent_room (omega arith) s.wide.1 s.wide.0 (Nat.lt_of_le_of_lt (values_size d places v s.a s.b s.wide.3) s.light) p.value)
 
     -- one row more
     pub rising_next : {y : ℤ} → y ≡ z *ℤ u +ℤ row_value places (first - (n + 1)) n v *ℤ pos 1 → Rising places d u v y (first - (n + 1)) (n + 1)

@@ -23,8 +23,8 @@ use Rattle.verdicts.proofs.Colours.{colour_is}
 -- ---- what determines it
 module _ (v : Verdicts) (k : ℕ) where
   -- the bend of a coloured finest cell, and 0 of another
-  abbrev bend-at : ℕ → ℕ → ℕ
-  bend-at p q = cond (eqb (colour v k p q) 1) (carried_bend (v k p q)) 0
+  abbrev bend_at : ℕ → ℕ → ℕ
+  bend_at p q = cond (eqb (colour v k p q) 1) (carried_bend (v k p q)) 0
 
   -- it is at most what the bend of each coloured finest cell is at most
   pub bend_least : (m : ℕ) → ((p q : ℕ) → p < 2 ^ k → q < 2 ^ k → colour v k p q ≡ 1 → carried_bend (v k p q) ≤ m) → largest_bend v k ≤ m
@@ -37,22 +37,22 @@ module _ (v : Verdicts) (k : ℕ) where
       ]))
 
   -- and at least each of them
-  each-at-most : (p q : ℕ) → p < 2 ^ k → q < 2 ^ k → bend-at p q ≤ largest_bend v k
+  each_at_most : (p q : ℕ) → p < 2 ^ k → q < 2 ^ k → bend_at p q ≤ largest_bend v k
   unfolding largest_bend
-  each-at-most p q h i = Nat.le_trans
-      (largest_member (λ p. bend-at p q) (member_span 0 (2 ^ k) p (omega arith) h))
-      (largest_member (λ q. largest (span 0 (2 ^ k)) (λ p. bend-at p q)) (member_span 0 (2 ^ k) q (omega arith) i))
+  each_at_most p q h i = Nat.le_trans
+      (largest_member (λ p. bend_at p q) (member_span 0 (2 ^ k) p (omega arith) h))
+      (largest_member (λ q. largest (span 0 (2 ^ k)) (λ p. bend_at p q)) (member_span 0 (2 ^ k) q (omega arith) i))
 
-  coloured-at-most : (p q : ℕ) → p < 2 ^ k → q < 2 ^ k → colour v k p q ≡ 1 → carried_bend (v k p q) ≤ largest_bend v k
-  coloured-at-most p q h i e = rw e at (each-at-most p q h i)
+  coloured_at_most : (p q : ℕ) → p < 2 ^ k → q < 2 ^ k → colour v k p q ≡ 1 → carried_bend (v k p q) ≤ largest_bend v k
+  coloured_at_most p q h i e = rw e at (each_at_most p q h i)
 
-  bend-reached : (p q : ℕ) → p < 2 ^ k → q < 2 ^ k → colour v k p q ≡ 1 → Having k (λ p q. colour v k p q ≡ 1) (λ p q. carried_bend (v k p q)) (largest_bend v k)
+  bend_reached : (p q : ℕ) → p < 2 ^ k → q < 2 ^ k → colour v k p q ≡ 1 → Having k (λ p q. colour v k p q ≡ 1) (λ p q. carried_bend (v k p q)) (largest_bend v k)
   unfolding largest_bend
-  bend-reached p q h i e = elim (dec_le (largest_bend v k) 0) [
-    | yes l ↦ record { column = p; row = q; across = h; along = i; holds = e; exact = omega (arith, coloured-at-most p q h i e) }
+  bend_reached p q h i e = elim (dec_le (largest_bend v k) 0) [
+    | yes l ↦ record { column = p; row = q; across = h; along = i; holds = e; exact = omega (arith, coloured_at_most p q h i e) }
     | no l ↦
-        let r = largest_reached (span 0 (2 ^ k)) (λ q. largest (span 0 (2 ^ k)) (λ p. bend-at p q)) (omega arith) in
-        let s = largest_reached (span 0 (2 ^ k)) (λ p. bend-at p r.member) (omega (arith, r.most)) in
+        let r = largest_reached (span 0 (2 ^ k)) (λ q. largest (span 0 (2 ^ k)) (λ p. bend_at p q)) (omega arith) in
+        let s = largest_reached (span 0 (2 ^ k)) (λ p. bend_at p r.member) (omega (arith, r.most)) in
         let some : 0 ≡ largest_bend v k → ⊥ = λ z. omega arith in
         let t = cond_first _ (s.most ∙ r.most) some in
         record {
@@ -66,7 +66,7 @@ module _ (v : Verdicts) (k : ℕ) where
   ]
 
 pub bend_largest : BendLargest
-bend_largest v k = record { at_most = coloured-at-most v k; reached = bend-reached v k; none = λ h. omega (arith, bend_least v k 0 (λ p q a b e. absurd (h p q a b e))) }
+bend_largest v k = record { at_most = coloured_at_most v k; reached = bend_reached v k; none = λ h. omega (arith, bend_least v k 0 (λ p q a b e. absurd (h p q a b e))) }
 
 -- the same by another property and other numbers, alike on the grid
 pub largest_by : {k : ℕ} {has also : ℕ → ℕ → Type 0} {number other : ℕ → ℕ → ℕ} {b c : ℕ}
@@ -112,5 +112,5 @@ pub bend_is : (v : Verdicts) (k : ℕ) → bend_from v 0 k 0 0 ≡ largest_bend 
 bend_is v k = Nat.le_antisymm
     (under_least v (largest_bend v k) 0 k 0 0 (λ x y e f o.
     let a = below_side x k e in let b = below_side y k f in
-    rw (Nat.zero-add k) (coloured-at-most v k x y a b (sym (colour_is v k x y) ∙ o))))
+    rw (Nat.zero-add k) (coloured_at_most v k x y a b (sym (colour_is v k x y) ∙ o))))
     (bend_least v k _ (λ p q a b e. rw (Nat.zero-add k) at (under_most v 0 k 0 0 p q (Nat.div-eq_of_lt a) (Nat.div-eq_of_lt b) (colour_is v k p q ∙ e))))

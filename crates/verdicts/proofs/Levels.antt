@@ -32,9 +32,9 @@ levels v weight end level p q = sumℕ (span level end) (λ j. reached v weight 
 
 module _ (v : Verdicts) (weight : ℕ → ℕ → ℕ → ℕ) (level p q : ℕ) where
   -- of its own level there is the cell itself
-  reached-self : reached v weight level level p q ≡ weight level p q
+  reached_self : reached v weight level level p q ≡ weight level p q
   unfolding reached
-  reached-self = rw (Nat.sub_self level, span_none level level (Nat.le_refl level)) (under_self (λ x y. weight level x y) p q)
+  reached_self = rw (Nat.sub_self level, span_none level level (Nat.le_refl level)) (under_self (λ x y. weight level x y) p q)
 
   -- of the levels below none if it is cleared
   pub reached_cleared : {c : ℕ} (j : ℕ) → level < j → Cleared (v level p q) c → reached v weight level j p q ≡ 0
@@ -43,9 +43,9 @@ module _ (v : Verdicts) (weight : ℕ → ℕ → ℕ → ℕ) (level p q : ℕ)
       under_none (j - level) _ p q (λ x y e f. ap (λ b. cond b (weight j x y) 0) (open_first v level j x y p q _ h e f s.closed))
 
   -- and if it is open those that its parts reach
-  reached-open : (j : ℕ) → level < j → Opened (v level p q) → reached v weight level j p q ≡ four (reached v weight (level + 1) j) p q
+  reached_open : (j : ℕ) → level < j → Opened (v level p q) → reached v weight level j p q ≡ four (reached v weight (level + 1) j) p q
   unfolding reached
-  reached-open j h s =
+  reached_open j h s =
       let below : ℕ → ℕ → ℕ = λ x y. cond (open_from v (level + 1) j x y) (weight j x y) 0 in
       under_cong (j - level) _ below p q (λ x y e f. ap (λ b. cond b (weight j x y) 0) (open_first v level j x y p q _ h e f s.free))
       ∙ ap (λ m. under m below p q) (levels_below h)
@@ -56,14 +56,14 @@ module _ (v : Verdicts) (weight : ℕ → ℕ → ℕ → ℕ) (level p q : ℕ)
       → levels v weight end level p q ≡ weight level p q
   levels_shut end h z =
       sumℕ_span_first level end _ h
-      ∙ ap₂ ◌+◌ reached-self (sumℕ_zero (span (suc level) end) (λ j m. let (l, k) = span_member (suc level) end m in z j l k))
+      ∙ ap₂ ◌+◌ reached_self (sumℕ_zero (span (suc level) end) (λ j m. let (l, k) = span_member (suc level) end m in z j l k))
       ∙ Nat.add-zero (weight level p q)
 
   pub levels_open : (end : ℕ) → level < end → Opened (v level p q)
       → levels v weight end level p q ≡ weight level p q + four (levels v weight end (level + 1)) p q
   levels_open end h s =
       sumℕ_span_first level end _ h
-      ∙ ap₂ ◌+◌ reached-self (sumℕ_cong (span (suc level) end) (λ j m. let (l, k) = span_member (suc level) end m in reached-open j l s)
+      ∙ ap₂ ◌+◌ reached_self (sumℕ_cong (span (suc level) end) (λ j m. let (l, k) = span_member (suc level) end m in reached_open j l s)
       ∙ sumℕ_four (span (suc level) end) (reached v weight (level + 1)) p q
       ∙ ap (λ n. four (λ a b. sumℕ (span n end) (λ j. reached v weight (level + 1) j a b)) p q) (sym (add-one level)))
 

@@ -84,40 +84,40 @@ listing_from v k level n p q = map (record_at v) (those (listed_from v k level) 
 
 module _ (v : Verdicts) (k level p q : ℕ) where
   -- the cell itself is listed if it is cleared or of level k
-  first-listed : (n : ℕ) (b : Bool) → (not (is_open (v level p q)) || eqb level k) ≡ b → those (listed_from v k level) (walking_order n level p q)
+  first_listed : (n : ℕ) (b : Bool) → (not (is_open (v level p q)) || eqb level k) ≡ b → those (listed_from v k level) (walking_order n level p q)
       ≡ cond b (cell level p q ∷ those (listed_from v k level) (later n level p q)) (those (listed_from v k level) (later n level p q))
-  first-listed n b h =
+  first_listed n b h =
       ap (those (listed_from v k level)) (order_first n level p q)
       ∙ those_first (listed_from v k level) (cell level p q) (later n level p q) b (rw (span_none level level (Nat.le_refl level)) h)
 
   -- the later ones if it is open
-  later-listed : (n : ℕ) (b : Bool) → is_open (v level p q) ≡ b
+  later_listed : (n : ℕ) (b : Bool) → is_open (v level p q) ≡ b
       → those (listed_from v k level) (later n level p q) ≡ those (λ c. b && listed_from v k (level + 1) c) (later n level p q)
-  later-listed n b o = those_cong (later n level p q) (λ c m.
+  later_listed n b o = those_cong (later n level p q) (λ c m.
       let (d, i) = later_inside n level p q c m in
       ap (λ t. t && (not (is_open (v c.level c.column c.row)) || eqb c.level k))
       (open_first v level c.level c.column c.row p q b d i.across i.up o)
       ∙ and_assoc b _ _)
 
   -- it alone
-  one-listed : (n c : ℕ) → (not (is_open (v level p q)) || eqb level k) ≡ true → those (listed_from v k level) (later n level p q) ≡ []
+  one_listed : (n c : ℕ) → (not (is_open (v level p q)) || eqb level k) ≡ true → those (listed_from v k level) (later n level p q) ≡ []
       → colour_of (v level p q ∷ []) ≡ c → listing_from v k level n p q ≡ record_of c level p q ∷ []
-  one-listed n c h none e =
-      ap (map (record_at v)) (first-listed n true h ∙ ap (λ l. cell level p q ∷ l) none) ∙ ap (λ d. record_of d level p q ∷ []) e
+  one_listed n c h none e =
+      ap (map (record_at v)) (first_listed n true h ∙ ap (λ l. cell level p q ∷ l) none) ∙ ap (λ d. record_of d level p q ∷ []) e
 
 listing_under : (v : Verdicts) (k level n p q : ℕ) → level + n ≡ k → listing_from v k level n p q ≡ records_from v level n p q
 unfolding those
 listing_under v k = walk_induction v (λ level n p q. level + n ≡ k → listing_from v k level n p q ≡ records_from v level n p q)
     (λ level n p q c s e.
-    one-listed v k level p q n c (ap (λ b. not b || eqb level k) s.closed)
-    (later-listed v k level p q n false s.closed ∙ those_none (later n level p q)) s.painted
+    one_listed v k level p q n c (ap (λ b. not b || eqb level k) s.closed)
+    (later_listed v k level p q n false s.closed ∙ those_none (later n level p q)) s.painted
     ∙ sym (records_cleared v level p q s n))
     (λ level p q s e.
-    one-listed v k level p q 0 1 (ap (λ b. not b || eqb level k) s.free ∙ eq-eqb level k (omega arith)) refl s.coloured
+    one_listed v k level p q 0 1 (ap (λ b. not b || eqb level k) s.free ∙ eq-eqb level k (omega arith)) refl s.coloured
     ∙ sym (records_last v level p q s))
     (λ level n p q s h e.
-    ap (map (record_at v)) (first-listed v k level p q (suc n) false (ap (λ b. not b || eqb level k) s.free ∙ ne_eqb level k (λ z. omega arith))
-    ∙ later-listed v k level p q (suc n) true s.free
+    ap (map (record_at v)) (first_listed v k level p q (suc n) false (ap (λ b. not b || eqb level k) s.free ∙ ne_eqb level k (λ z. omega arith))
+    ∙ later_listed v k level p q (suc n) true s.free
     ∙ those_in_turn (walking_order n (level + 1)) p q (listed_from v k (level + 1)))
     ∙ map_in_turn (λ a b. those (listed_from v k (level + 1)) (walking_order n (level + 1) a b)) p q (record_at v)
     ∙ in_turn_cong _ _ p q (λ a b i j. h a b i j (omega arith))

@@ -17,18 +17,18 @@ use Rattle.verdicts.proofs.Lists.{++_member, those-++}
 
 -- a property of each of the four
 record Parts (P : ℕ → ℕ → Type 0) (p q : ℕ) : Type 0 where
-  lower-left : P (2 * p) (2 * q)
+  lower_left : P (2 * p) (2 * q)
   lower_right : P (2 * p + 1) (2 * q)
-  upper-left : P (2 * p) (2 * q + 1)
-  upper-right : P (2 * p + 1) (2 * q + 1)
+  upper_left : P (2 * p) (2 * q + 1)
+  upper_right : P (2 * p + 1) (2 * q + 1)
 
 -- of each part the cell is the half, in column and row
 parts : (P : ℕ → ℕ → Type 0) (p q : ℕ) → ((a b : ℕ) → a / 2 ≡ p → b / 2 ≡ q → P a b) → Parts P p q
 parts P p q h = record {
-  lower-left = h (2 * p) (2 * q) (omega arith) (omega arith);
+  lower_left = h (2 * p) (2 * q) (omega arith) (omega arith);
   lower_right = h (2 * p + 1) (2 * q) (omega arith) (omega arith);
-  upper-left = h (2 * p) (2 * q + 1) (omega arith) (omega arith);
-  upper-right = h (2 * p + 1) (2 * q + 1) (omega arith) (omega arith);
+  upper_left = h (2 * p) (2 * q + 1) (omega arith) (omega arith);
+  upper_right = h (2 * p + 1) (2 * q + 1) (omega arith) (omega arith);
 }
 
 -- ---- columns and rows

@@ -75,15 +75,15 @@ after_open (Open l u b ∷ xs) ys e = after_open xs ys e
 
 -- ---- the larger cells that enclose a cell which encloses the finest cell p, q enclose the finest cell
 module _ (v : Verdicts) (k p q : ℕ) where
-  visited-by : (level : ℕ) → level ≤ k → is_visited v level (p / 2 ^ (k - level)) (q / 2 ^ (k - level)) ≡ all_open (map (enclosing v k p q) (span 0 level))
-  visited-by level h = ap all_open (map_cong (span 0 level) (λ l m.
+  visited_by : (level : ℕ) → level ≤ k → is_visited v level (p / 2 ^ (k - level)) (q / 2 ^ (k - level)) ≡ all_open (map (enclosing v k p q) (span 0 level))
+  visited_by level h = ap all_open (map_cong (span 0 level) (λ l m.
       let (_, i) = span_member 0 level m in
       let e : (k - level) + (level - l) ≡ k - l = omega arith in
       rw (shr-shr p (k - level) (level - l), shr-shr q (k - level) (level - l), e)))
 
-  colour-covered : (c : ℕ) → eqb c 1 ≡ false → colour v k p q ≡ c → Covered v k p q (verdict_of c)
+  colour_covered : (c : ℕ) → eqb c 1 ≡ false → colour v k p q ≡ c → Covered v k p q (verdict_of c)
   unfolding colour span
-  colour-covered c h e =
+  colour_covered c h e =
       let r = deciding (enclosing v k p q) 0 (suc k) c h (ap (λ ls. colour_of (map (enclosing v k p q) ls)) (sym (⋯-run k)) ∙ e) in
       let l = r.before in
       let w : Verdict = enclosing v k p q l in
@@ -91,28 +91,28 @@ module _ (v : Verdicts) (k p q : ℕ) where
       record {
         level = l;
         within = i;
-        reached = visited-by l i ∙ ap (λ n. all_open (map (enclosing v k p q) (run 0 n))) (Nat.sub-zero l) ∙ r.free;
+        reached = visited_by l i ∙ ap (λ n. all_open (map (enclosing v k p q) (run 0 n))) (Nat.sub-zero l) ∙ r.free;
         lower = carried_lower w;
         upper = carried_upper w;
         bend = carried_bend w;
         judged = verdict_is w ∙ ap (λ d. verdict_of d (carried_lower w) (carried_upper w) (carried_bend w)) (ap (λ n. colour_of (enclosing v k p q n ∷ [])) (sym (Nat.zero-add l)) ∙ r.painted);
       }
 
-  covered-colour : (c level : ℕ) → level ≤ k → is_visited v level (p / 2 ^ (k - level)) (q / 2 ^ (k - level)) ≡ true → Cleared (enclosing v k p q level) c → colour v k p q ≡ c
+  covered_colour : (c level : ℕ) → level ≤ k → is_visited v level (p / 2 ^ (k - level)) (q / 2 ^ (k - level)) ≡ true → Cleared (enclosing v k p q level) c → colour v k p q ≡ c
   unfolding colour ◌⋯◌
-  covered-colour c level h o s =
+  covered_colour c level h o s =
       let f = enclosing v k p q in
       let later = span (suc level) (suc k) in
       ap (λ ls. colour_of (map f ls)) (span-++ 0 level (suc k) (omega arith) (omega arith) ∙ ap (λ ls. span 0 level ++ ls) (span_first level (suc k) (omega arith)))
       ∙ ap colour_of (map-append f (span 0 level) (level ∷ later))
-      ∙ after_open (map f (span 0 level)) (map f (level ∷ later)) (sym (visited-by level h) ∙ o)
+      ∙ after_open (map f (span 0 level)) (map f (level ∷ later)) (sym (visited_by level h) ∙ o)
       ∙ first_cleared s (map f later)
 
 pub colour_above : (v : Verdicts) (k p q : ℕ) → colour v k p q ≡ 2 → Covered v k p q Above
-colour_above v k p q e = colour-covered v k p q 2 refl e
+colour_above v k p q e = colour_covered v k p q 2 refl e
 
 pub colour_below : (v : Verdicts) (k p q : ℕ) → colour v k p q ≡ 3 → Covered v k p q Below
-colour_below v k p q e = colour-covered v k p q 3 refl e
+colour_below v k p q e = colour_covered v k p q 3 refl e
 
 -- ---- no verdict decides
 undecided : (f : ℕ → Verdict) (ls : List ℕ) → colour_of (map f ls) ≡ 1 → (l : ℕ) → Memᴰ l ls → is_open (f l) ≡ true
@@ -144,6 +144,6 @@ open_colour v k p q h = none_decides (enclosing v k p q) _ (λ l m. h l (⋯_mem
 pub colour_means : ColourMeans
 colour_means v k p q = (
   (coloured_all_open v k p q, open_colour v k p q),
-  (colour_above v k p q, λ w. covered-colour v k p q 2 w.level w.within w.reached (cleared_above (sym w.judged))),
-  (colour_below v k p q, λ w. covered-colour v k p q 3 w.level w.within w.reached (cleared_below (sym w.judged))),
+  (colour_above v k p q, λ w. covered_colour v k p q 2 w.level w.within w.reached (cleared_above (sym w.judged))),
+  (colour_below v k p q, λ w. covered_colour v k p q 3 w.level w.within w.reached (cleared_below (sym w.judged))),
 )

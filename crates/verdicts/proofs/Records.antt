@@ -46,10 +46,10 @@ pub told : (c level a b : ℕ) → c ≤ 3 → a < 128 → b < 128 → Told (rec
 told c level a b h i j = record { depth = omega arith; across = omega arith; up = omega arith; painted = omega arith }
 
 module _ (k x y : ℕ) where
-  one-record : (c level a b : ℕ) → c ≤ 3 → a < 128 → b < 128
+  one_record : (c level a b : ℕ) → c ≤ 3 → a < 128 → b < 128
       → unfolded_at k (record_of c level a b ∷ []) x y ≡ cond (eqb (x / 2 ^ (k - level)) a && eqb (y / 2 ^ (k - level)) b) (c ∷ []) []
   unfolding those
-  one-record c level a b h i j =
+  one_record c level a b h i j =
       let t = told c level a b h i j in
       cond_ap (map (λ r. r % 4)) (covers k x y (record_of c level a b)) (record_of c level a b ∷ []) []
       ∙ rw (t.depth, t.across, t.up, t.painted)
@@ -61,41 +61,41 @@ module _ (k x y : ℕ) where
       ap (λ d. d ∷ []) (h (eqb-true _ _ (and_left (eqb (x / 2 ^ n) a) (eqb (y / 2 ^ n) b) t)) (eqb-true _ _ (and_right (eqb (x / 2 ^ n) a) (eqb (y / 2 ^ n) b) t))))
 
   -- of the records of a cell one covers the finest cell x, y if the cell does, and else none
-  abbrev told-by : Verdicts → ℕ → ℕ → ℕ → ℕ → Type 0
-  told-by v level n a b = level + n ≡ k → a < 2 ^ level → b < 2 ^ level
+  abbrev told_by : Verdicts → ℕ → ℕ → ℕ → ℕ → Type 0
+  told_by v level n a b = level + n ≡ k → a < 2 ^ level → b < 2 ^ level
       → unfolded_at k (records_from v level n a b) x y ≡ cond (eqb (x / 2 ^ n) a && eqb (y / 2 ^ n) b) (colour_from v level n x y ∷ []) []
 
   -- the cell has one record
-  told-alone : (v : Verdicts) (level n a b c : ℕ) → k ≤ 7 → c ≤ 3 → records_from v level n a b ≡ record_of c level a b ∷ []
-      → (x / 2 ^ n ≡ a → y / 2 ^ n ≡ b → colour_from v level n x y ≡ c) → told-by v level n a b
-  told-alone v level n a b c small s e f h i j =
+  told_alone : (v : Verdicts) (level n a b c : ℕ) → k ≤ 7 → c ≤ 3 → records_from v level n a b ≡ record_of c level a b ∷ []
+      → (x / 2 ^ n ≡ a → y / 2 ^ n ≡ b → colour_from v level n x y ≡ c) → told_by v level n a b
+  told_alone v level n a b c small s e f h i j =
       let left : k - level ≡ n = omega arith in
       let deep : level ≤ 7 = omega arith in
       let side : 2 ^ level ≤ 128 = pow_mono deep in
       ap (λ l. unfolded_at k l x y) e
-      ∙ one-record c level a b s (omega arith) (omega arith)
+      ∙ one_record c level a b s (omega arith) (omega arith)
       ∙ rw left (covered n a b (λ i j. sym (f i j)))
 
   -- or those of its four parts
-  told-parts : (g : ℕ → ℕ → List ℕ) (n a b c : ℕ)
+  told_parts : (g : ℕ → ℕ → List ℕ) (n a b c : ℕ)
       → ((i j : ℕ) → i / 2 ≡ a → j / 2 ≡ b → unfolded_at k (g i j) x y ≡ cond (eqb (x / 2 ^ n) i && eqb (y / 2 ^ n) j) (c ∷ []) [])
       → unfolded_at k (in_turn g a b) x y ≡ cond (eqb (x / 2 ^ suc n) a && eqb (y / 2 ^ suc n) b) (c ∷ []) []
-  told-parts g n a b c h =
+  told_parts g n a b c h =
       ap (map (λ r. r % 4)) (those_in_turn g a b (covers k x y))
       ∙ map_in_turn (λ i j. those (covers k x y) (g i j)) a b (λ r. r % 4)
       ∙ in_turn_cong _ (λ i j. cond (eqb (x / 2 ^ n) i && eqb (y / 2 ^ n) j) (c ∷ []) []) a b h
       ∙ joined c (x / 2 ^ n) a (y / 2 ^ n) b (halves (x / 2 ^ n) a) (halves (y / 2 ^ n) b)
       ∙ rw (half_of x n, half_of y n)
 
-  told_under : (v : Verdicts) → k ≤ 7 → (level n a b : ℕ) → told-by v level n a b
-  told_under v small = walk_induction v (told-by v)
-      (λ level n a b c s. told-alone v level n a b c small (rw s.painted at (colour_of_small (v level a b ∷ [])))
+  told_under : (v : Verdicts) → k ≤ 7 → (level n a b : ℕ) → told_by v level n a b
+  told_under v small = walk_induction v (told_by v)
+      (λ level n a b c s. told_alone v level n a b c small (rw s.painted at (colour_of_small (v level a b ∷ [])))
       (records_cleared v level a b s n) (colour_cleared v level a b s n x y))
-      (λ level a b s. told-alone v level 0 a b 1 small (omega arith) (records_last v level a b s) (colour_last v level a b s x y))
+      (λ level a b s. told_alone v level 0 a b 1 small (omega arith) (records_last v level a b s) (colour_last v level a b s x y))
       (λ level n a b s h e i j.
       let side : 2 ^ (level + 1) ≡ 2 ^ level + 2 ^ level = ap (λ m. 2 ^ m) (add-one level) ∙ Nat.two-pow-succ level in
       ap (λ l. unfolded_at k l x y) (records_open v level a b s n)
-      ∙ told-parts (records_from v (level + 1) n) n a b (colour_from v (level + 1) n x y)
+      ∙ told_parts (records_from v (level + 1) n) n a b (colour_from v (level + 1) n x y)
       (λ p q f g. h p q f g (omega arith) (omega arith) (omega arith))
       ∙ covered (suc n) a b (λ i j. sym (colour_open v level a b s n x y i j)))
 

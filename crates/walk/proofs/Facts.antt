@@ -39,23 +39,23 @@ listing_zeros S mode old r now h n = h.1 ∙ sym (unless_refused _ _ _ n)
 
 -- ---- the places where nothing is refused
 module _ (S : Sheet) (mode : ℕ) (old : List ℕ) (e : refusal (to_walk S mode (length old)) ≡ 0) where
-  raster-place : rastered S mode old ≡ raster (verdicts S mode) S.k ++ drop (4 ^ S.k) old
+  raster_place : rastered S mode old ≡ raster (verdicts S mode) S.k ++ drop (4 ^ S.k) old
   unfolding rastered
-  raster-place = sym (unless_none _ _ _ e)
+  raster_place = sym (unless_none _ _ _ e)
 
-  listing-place : recorded S mode old ≡ records (verdicts S mode) S.k ++ drop (length (records (verdicts S mode) S.k)) old
+  listing_place : recorded S mode old ≡ records (verdicts S mode) S.k ++ drop (length (records (verdicts S mode) S.k)) old
   unfolding recorded
-  listing-place = sym (unless_none _ _ _ e)
+  listing_place = sym (unless_none _ _ _ e)
 
   -- there is room for the listing
-  listing-room : length (records (verdicts S mode) S.k) ≤ length old
-  listing-room = Nat.le_trans (listing_long (verdicts S mode) S.k).2 (room S mode (length old) e)
+  listing_room : length (records (verdicts S mode) S.k) ≤ length old
+  listing_room = Nat.le_trans (listing_long (verdicts S mode) S.k).2 (room S mode (length old) e)
 
 -- ---- the bytes of the raster
 pub printed_byte : PrintedByte
 printed_byte S mode old r now h e p q a b =
     let v = verdicts S mode in
-    ap (λ l. get_or l (q * 2 ^ S.k + p) 0) (h.2 ∙ raster-place S mode old e)
+    ap (λ l. get_or l (q * 2 ^ S.k + p) 0) (h.2 ∙ raster_place S mode old e)
     ∙ get_or-append (raster v S.k) (drop (4 ^ S.k) old) 0 (q * 2 ^ S.k + p) (omega (arith, raster_long v S.k, byte_below S.k p q a b))
     ∙ raster_byte v S.k p q a b
 
@@ -82,13 +82,13 @@ unfolding enumerated
 written_records S mode old r now h e =
     let v = verdicts S mode in let xs = records v S.k in let depth = (walk_passed S mode (length old) e).0.ranges.depth in
     let l : (states_listing r).length ≡ length xs = ap (λ t. t.length) (h.1 ∙ sym (unless_none _ _ _ e)) in
-    (l, rw (l, h.2 ∙ listing-place S mode old e, take-append_seam xs (drop (length xs) old)) (same_story v S.k depth))
+    (l, rw (l, h.2 ∙ listing_place S mode old e, take-append_seam xs (drop (length xs) old)) (same_story v S.k depth))
 
 -- one record for each finest cell
 pub listed_colour : ListedColour
 listed_colour S mode old r now h e p q a b =
     let v = verdicts S mode in let xs = records v S.k in
-    rw ((written_records S mode old r now h e).0, h.2 ∙ listing-place S mode old e, take-append_seam xs (drop (length xs) old)) (one_record_each v S.k p q (walk_passed S mode (length old) e).0.ranges.depth a b)
+    rw ((written_records S mode old r now h e).0, h.2 ∙ listing_place S mode old e, take-append_seam xs (drop (length xs) old)) (one_record_each v S.k p q (walk_passed S mode (length old) e).0.ranges.depth a b)
 
 head_is : {m n : ℕ} → m ∷ [] ≡ n ∷ [] → m ≡ n
 head_is z = ap (λ l. get_or l 0 0) z
@@ -121,6 +121,6 @@ pub later_unchanged : LaterUnchanged
 later_unchanged S mode old now e =
     let v = verdicts S mode in
     let long = raster_long v S.k in (
-      λ r h. rw (h.2 ∙ raster-place S mode old e) (over_length (raster v S.k) old long (room S mode (length old) e), over_later (raster v S.k) old long),
-      λ r h. rw (h.2 ∙ listing-place S mode old e) (over_length (records v S.k) old refl (listing-room S mode old e), over_later (records v S.k) old refl),
+      λ r h. rw (h.2 ∙ raster_place S mode old e) (over_length (raster v S.k) old long (room S mode (length old) e), over_later (raster v S.k) old long),
+      λ r h. rw (h.2 ∙ listing_place S mode old e) (over_length (records v S.k) old refl (listing_room S mode old e), over_later (records v S.k) old refl),
     )

@@ -56,25 +56,25 @@ part k level = 4 ^ (k - (level + 1))
 
 -- a cut cell's room is that of four parts, which come one after the other, whatever their columns and rows
 module _ (k level at : ℕ) (l₀ : List ℕ) (l : level < k) (h : at + 4 ^ (k - level) ≤ length l₀) where
-  room-four : at + (part k level + (part k level + (part k level + part k level))) ≤ length l₀
-  room-four = omega (arith, Nat.pow-suc 4 (k - (level + 1)), ap (λ n. 4 ^ n) (levels_below l))
+  room_four : at + (part k level + (part k level + (part k level + part k level))) ≤ length l₀
+  room_four = omega (arith, Nat.pow-suc 4 (k - (level + 1)), ap (λ n. 4 ^ n) (levels_below l))
 
   pub room_first : at + part k level ≤ length l₀
-  room_first = omega (arith, room-four)
+  room_first = omega (arith, room_four)
 
   module _ {v : Verdicts} {p₁ q₁ : ℕ} {l₁ : List ℕ} {a : Entered} (h₁ : Recorded v k (level + 1) p₁ q₁ at l₀ l₁ a) where
-    room-three : a.end + (part k level + (part k level + part k level)) ≤ length l₁
-    room-three = room_rest _ h₁ room-four
+    room_three : a.end + (part k level + (part k level + part k level)) ≤ length l₁
+    room_three = room_rest _ h₁ room_four
 
     pub room_second : a.end + part k level ≤ length l₁
-    room_second = omega (arith, room-three)
+    room_second = omega (arith, room_three)
 
     module _ {p₂ q₂ : ℕ} {l₂ : List ℕ} {b : Entered} (h₂ : Recorded v k (level + 1) p₂ q₂ a.end l₁ l₂ b) where
-      room-two : b.end + (part k level + part k level) ≤ length l₂
-      room-two = room_rest _ h₂ room-three
+      room_two : b.end + (part k level + part k level) ≤ length l₂
+      room_two = room_rest _ h₂ room_three
 
       pub room_third : b.end + part k level ≤ length l₂
-      room_third = omega (arith, room-two)
+      room_third = omega (arith, room_two)
 
       pub room_fourth : {p₃ q₃ : ℕ} {l₃ : List ℕ} {c : Entered} → Recorded v k (level + 1) p₃ q₃ b.end l₂ l₃ c → c.end + part k level ≤ length l₃
-      room_fourth h₃ = room_rest _ h₃ room-two
+      room_fourth h₃ = room_rest _ h₃ room_two

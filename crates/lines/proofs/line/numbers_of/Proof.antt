@@ -27,8 +27,8 @@ decreases-loop line letter count signs ends right values₀ i₀ values i = coun
 letter-is : (c : tie.After-letter-alone invariant-loop decreases-loop) → let s = c.before.before.before.before.before in c.letter-alone.result ≡ is_letter s.args.letter (get_or (fields s.args.line.now) 0 [])
 letter-is c = c.letter-alone.ensures ∙ ap (is_letter _) (sym (letter_bytes c.before.before.before.part.ensures))
 
-count-is : (c : tie.After-opening invariant-loop decreases-loop) → let p = c.before.before.before.before in p.part.result.count ≡ min (length (numbers_in p.before.before.args.line.now) + 1) 5
-count-is c = numbers_count c.before.before.before.before.part.ensures
+count_is : (c : tie.After-opening invariant-loop decreases-loop) → let p = c.before.before.before.before in p.part.result.count ≡ min (length (numbers_in p.before.before.args.line.now) + 1) 5
+count_is c = numbers_count c.before.before.before.before.part.ensures
 
 -- where the next number stands, and what it is
 number_at : (c : tie.In-loop invariant-loop decreases-loop) → let i = c.before.loop.i in let p = c.before.before.before.before.before.before.before.before in
@@ -75,12 +75,12 @@ opening-requires c κs = search rules
 returns : tie.Need-returns invariant-loop decreases-loop
 returns c =
     let o = c.before.before in let s = o.before.before.before.before.before.before in
-    opened_faulty _ _ _ _ (letter-is o.before) (count-is o) s.requires.0 s.requires.1 o.opening.ensures c.if1.true
+    opened_faulty _ _ _ _ (letter-is o.before) (count_is o) s.requires.0 s.requires.1 o.opening.ensures c.if1.true
 
 loop-holds : tie.Need-loop-init invariant-loop decreases-loop
 loop-holds c =
     let o = c.before.before in let s = o.before.before.before.before.before.before in
-    let (letter, count) = opened_right _ _ _ _ (letter-is o.before) (count-is o) s.requires.0 s.requires.1 o.opening.ensures c.if1.false in (letter, reading_start _ _ count)
+    let (letter, count) = opened_right _ _ _ _ (letter-is o.before) (count_is o) s.requires.0 s.requires.1 o.opening.ensures c.if1.false in (letter, reading_start _ _ count)
 
 mul-number : tie.Need-overflow-mul-number invariant-loop decreases-loop
 mul-number c = omega arith

@@ -86,8 +86,8 @@ module _ (k : tie.After-centre) where
   total-is : total ≡ sizes_of start.args.places.now (count start.args.d)
   total-is = k.before.before.before.before.before.before.sizes.ensures
 
-  spare-is : spare ≡ spare_in start.args.mode start.args.places.now start.args.d
-  spare-is = k.before.spared-in.ensures
+  spare_is : spare ≡ spare_in start.args.mode start.args.places.now start.args.d
+  spare_is = k.before.spared-in.ensures
 
   small : (n : ℕ) → total - n ≤ sizes_of start.args.places.now (count start.args.d)
   small n = let e = total-is in omega arith
@@ -98,19 +98,19 @@ module _ (k : tie.After-centre) where
   lower-read : to_z w64 (of_z w64 (to_z w64 (of_z w64 centre) -ℤ to_z w64 (total - spare.fall))) ≡ lower_of start.args.d (mode_of start.args.mode) (held start.args.places.now start.args.d)
   lower-read =
       rw (centre-read, step_read start.pre.0 start.pre.1 (small spare.fall), to_z-of_z (minus_fits start.pre.0 start.pre.1 (small spare.fall)))
-      (lower_is start.pre.0 start.pre.1 start.args.mode total-is spare-is)
+      (lower_is start.pre.0 start.pre.1 start.args.mode total-is spare_is)
 
   upper-read : to_z w64 (of_z w64 (to_z w64 (of_z w64 centre) +ℤ to_z w64 (total - spare.rise))) ≡ upper_of start.args.d (mode_of start.args.mode) (held start.args.places.now start.args.d)
   upper-read =
       rw (centre-read, step_read start.pre.0 start.pre.1 (small spare.rise), to_z-of_z (plus_fits start.pre.0 start.pre.1 (small spare.rise)))
-      (upper_is start.pre.0 start.pre.1 start.args.mode total-is spare-is)
+      (upper_is start.pre.0 start.pre.1 start.args.mode total-is spare_is)
 
   bend-read : total - k.before.before.before.before.size.result - k.before.before.size2.result ≡ bend_of start.args.d (held start.args.places.now start.args.d)
   bend-read =
       let b = bend_rest start.pre.0 start.pre.1 in let e = size_is k.before.before.before.before in let f = size-is-2 k.before.before in let t = total-is in omega arith
 
 sub-lower : tie.Need-overflow-sub-lower
-sub-lower c = let k = c.before in fall_within (start k).requires.0 (start k).requires.1 (start k).args.mode (total-is k) (spare-is k)
+sub-lower c = let k = c.before in fall_within (start k).requires.0 (start k).requires.1 (start k).args.mode (total-is k) (spare_is k)
 
 cast-lower : tie.Need-overflow-cast-lower
 cast-lower c = let k = c.before in step_fits (start k).requires.0 (start k).requires.1 (small k (spare k).fall)
@@ -121,7 +121,7 @@ sub-lower-2 c =
     rw (centre-read k, step_read (start k).requires.0 (start k).requires.1 (small k (spare k).fall)) (minus_fits (start k).requires.0 (start k).requires.1 (small k (spare k).fall))
 
 sub-upper : tie.Need-overflow-sub-upper
-sub-upper c = let k = c.before.before in rise_within (start k).requires.0 (start k).requires.1 (start k).args.mode (total-is k) (spare-is k)
+sub-upper c = let k = c.before.before in rise_within (start k).requires.0 (start k).requires.1 (start k).args.mode (total-is k) (spare_is k)
 
 cast-upper : tie.Need-overflow-cast-upper
 cast-upper c = let k = c.before.before in step_fits (start k).requires.0 (start k).requires.1 (small k (spare k).rise)
