@@ -1,5 +1,7 @@
 // Lines of a text: a letter in field 1, and a number in each field after it; or the first fault of a line.
 // An inner crate: what its functions require, every caller proves.
+#![tactic(auto)]
+
 mod digits;
 mod fields;
 mod line;

@@ -1,5 +1,7 @@
 // The weight of a sheet on the machine, with a ceiling.
 // An inner crate: what its functions require, every caller proves.
+#![tactic(auto)]
+
 ghost use Rattle.std.specs.Prelude.{◌≡◌, ◌+◌, ◌*◌, ◌-◌, ◌/◌, ◌^◌, ◌≤◌, ◌<◌, min, max, pos, ◌+ℤ◌, nat_abs, length, get_or};
 ghost use Rattle.algebra.specs.Triangle.{triangle, place};
 ghost use Rattle.algebra.specs.Digits.{digits};
