@@ -1,5 +1,7 @@
 // What a walk leaves of a cell: its colour and its bend, what is seen of it, its record, and its block of bytes.
 // An inner crate: what its functions require, every caller proves.
+#![tactic(auto)]
+
 mod cell;
 mod paint;
 
