@@ -5,17 +5,13 @@ use borrow.Author.Rules.{rules}
 use lib.Signed.{mag_shr, shr_z}
 use mir.Facts.{to_z-of_z}
 use Rattle.numbers.proofs.Machine.{read64}
-use Rattle.tables.proofs.scaling.halved.Statement.{statement}
-use Rattle.tables.proofs.scaling.halved.Tie as tie
+use Rattle.tables.proofs.scaling.halved.Goals as goal
 
-cast-result : tie.Need-overflow-cast-result
-cast-result c = search rules
+pub overflow_cast-result : goal.overflow_cast-result
+overflow_cast-result c = search rules
 
-shr-result : tie.Need-overflow-shr-result
-shr-result c = search rules
+pub overflow_shr-result : goal.overflow_shr-result
+overflow_shr-result c = search rules
 
-returns : tie.Need-returns
+pub returns : goal.returns
 returns c = rw (to_z-of_z c.ranges.g) (read64 (shr_z c.args.g (2 ^ c.args.n)) (Nat.lt_of_le_of_lt (mag_shr c.args.g (2 ^ c.args.n)) c.ranges.g.sfits))
-
-pub halved-spec : {M : Type 1} → statement M
-halved-spec = tie.close (tie.spec cast-result shr-result returns)

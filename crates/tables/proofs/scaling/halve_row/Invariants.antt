@@ -1,0 +1,16 @@
+use mathlib.Core.Path.{◌≡◌, ◌∙◌}
+use Prim.Native.Nat.{◌+◌, ◌-◌, ◌^◌}
+use native.Mathlib.Omega.{arith}
+use lib.Signed.{shr_z}
+use mir.Syntax.{w64}
+use mir.Val.{to_z, of_z}
+use Rattle.tables.specs.Table.{at, row_of}
+use Rattle.numbers.proofs.Machine.{read64}
+use Rattle.tables.proofs.Setting.{RowMapping, row_mapping_start, row_mapping_next, row_mapping_end}
+use Rattle.tables.proofs.scaling.halve_row.Given as goal
+
+abbrev pub invariant-loop-b : goal.invariant-loop-b
+invariant-loop-b l = RowMapping l.first l.n (λ b. shr_z (row_of l.initial.places l.first b) (2 ^ (l.a + b))) l.initial.places l.places l.b
+
+abbrev pub decreases-loop-b : goal.decreases-loop-b
+decreases-loop-b l = l.n + 1 - l.b

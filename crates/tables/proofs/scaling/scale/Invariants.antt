@@ -1,0 +1,12 @@
+use Prim.Native.Nat.{◌+◌, ◌-◌}
+use native.Mathlib.Omega.{arith}
+use Rattle.tables.specs.Scaling.{RowScalable}
+use Rattle.tables.proofs.Setting.{Setting, setting_start, setting_next}
+use Rattle.tables.proofs.Powers.{scaled, scaled_row_fits, scaled_row_set, scaled_end}
+use Rattle.tables.proofs.scaling.scale.Given as goal
+
+abbrev pub invariant-loop-a : goal.invariant-loop-a
+invariant-loop-a l = Setting 0 l.d (scaled l.d l.e l.f l.initial.places) l.initial.places l.places l.first l.a
+
+abbrev pub decreases-loop-a : goal.decreases-loop-a
+decreases-loop-a l = l.d + 1 - l.a
