@@ -1,5 +1,7 @@
 // What stands before the digits of a plain PBM: `P1`, the width, the height, and the white space that opens the digits.
 // An inner crate: what its functions require, every caller proves.
+#![tactic(auto)]
+
 mod gaps;
 mod sizes;
 

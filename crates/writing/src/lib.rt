@@ -1,5 +1,7 @@
 // The text of a listing, or of a refusal, written on a place that is lent.
 // An inner crate: what its functions require, every caller proves.
+#![tactic(auto)]
+
 mod lines;
 mod number;
 

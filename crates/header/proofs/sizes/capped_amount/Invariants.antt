@@ -1,0 +1,12 @@
+use Prim.Native.Nat.{◌-◌, ◌^◌}
+use native.Mathlib.Omega.{arith}
+use borrow.Author.Rules.{rules}
+use lib.ListN.{length}
+use Rattle.page.proofs.Amounts.{Adding, adding_start, adding_digit, adding_next, adding_end}
+use Rattle.header.proofs.sizes.capped_amount.Given as goal
+
+abbrev pub invariant-loop-i : goal.invariant-loop-i
+invariant-loop-i l = Adding (2 ^ 63) l.digits l.n l.i
+
+abbrev pub decreases-loop-i : goal.decreases-loop-i
+decreases-loop-i l = length l.digits - l.i
