@@ -1,5 +1,7 @@
 // The local form on the machine: a table by value, the range of its values, and the verdict by a range.
 // An inner crate: what its functions require, every caller proves.
+#![tactic(auto)]
+
 mod judging;
 mod measure;
 mod sizes;
