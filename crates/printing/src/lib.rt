@@ -1,4 +1,6 @@
 // The call that writes a raster as a plain PBM, the Netpbm `P1` form, on a lent place.
+#![tactic(auto)]
+
 mod refusals;
 mod rows;
 

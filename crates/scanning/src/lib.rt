@@ -1,4 +1,6 @@
 // The call that reads a plain PBM, the Netpbm `P1` form, from any bytes, as a mask on a lent place.
+#![tactic(auto)]
+
 mod digits;
 mod rows;
 

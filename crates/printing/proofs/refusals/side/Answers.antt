@@ -6,18 +6,14 @@ use native.Mathlib.Nat.{one-mul}
 use native.Mathlib.Omega.{arith}
 use lib.Pow.{shl_exact, pow_mono}
 use lib.Dec.{lit<}
-use Rattle.printing.proofs.refusals.side.Statement.{statement}
-use Rattle.printing.proofs.refusals.side.Tie as tie
+use Rattle.printing.proofs.refusals.side.Goals as goal
 
-shl-result : tie.Need-overflow-shl-result
-shl-result c = search rules
+pub overflow_shl-result : goal.overflow_shl-result
+overflow_shl-result c = search rules
 
-returns : tie.Need-returns
+pub returns : goal.returns
 returns c =
     let k = c.args.k in
     let e : 1 * 2 ^ k % 2 ^ 32 ≡ 2 ^ k = shl_exact 1 k 32 (lit< tt) (omega arith) ∙ one-mul (2 ^ k) in
     let small : 2 ^ k ≤ 2 ^ 7 = pow_mono c.requires in
     (e, omega arith)
-
-pub side-spec : {M : Type 1} → statement M
-side-spec = tie.close (tie.spec shl-result returns)

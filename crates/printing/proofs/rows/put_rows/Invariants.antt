@@ -1,0 +1,15 @@
+use Prim.Native.Nat.{◌-◌}
+use native.Mathlib.Omega.{arith}
+use Rattle.algebra.specs.Sum.{span}
+use Rattle.writing.proofs.Puts.{Putting, putting_start, put_length}
+use Rattle.pbm.specs.Writing.{row_text, rows_text}
+use Rattle.printing.proofs.Squares.{row_within}
+use Rattle.printing.proofs.Columns.{row_room}
+use Rattle.printing.proofs.Numbered.{numbered_room, numbered_next, numbered_end}
+use Rattle.printing.proofs.rows.put_rows.Given as goal
+
+abbrev pub invariant-loop-n : goal.invariant-loop-n
+invariant-loop-n l = Putting (λ n. row_text l.side l.raster (l.side - 1 - n)) (span 0 l.side) l.at l.initial.place l.place l.end l.n
+
+abbrev pub decreases-loop-n : goal.decreases-loop-n
+decreases-loop-n l = l.side - l.n

@@ -1,0 +1,12 @@
+use Prim.Native.Nat.{◌-◌}
+use native.Mathlib.Omega.{arith}
+use lib.ListN.{get_or}
+use Rattle.scanning.proofs.Ahead.{digit_from}
+use Rattle.scanning.proofs.Masking.{Rowing, rowing_start, rowing_some, rowing_next, rowing_length, rowing_end}
+use Rattle.scanning.proofs.rows.put_row.Given as goal
+
+abbrev pub invariant-loop-p : goal.invariant-loop-p
+invariant-loop-p l = Rowing l.text l.at l.from l.side l.initial.place l.place l.next l.p
+
+abbrev pub decreases-loop-p : goal.decreases-loop-p
+decreases-loop-p l = l.side - l.p
