@@ -1,5 +1,7 @@
 // What the calls are made of: the conditions that they share, and the local form of a cell.
 // An inner crate: what its functions require, every caller proves.
+#![tactic(auto)]
+
 mod cell;
 mod refusals;
 mod scale;
