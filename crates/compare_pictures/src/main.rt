@@ -34,7 +34,7 @@ const READ: usize = 1;
 const MADE: usize = 3;
 
 // What a call answers: the number of a refusal, and zero, or 0, and its answer.
-#[derive(Drop)]
+#[derive(Clone, Copy)]
 struct Answer {
     pub number: u32,
     pub value: usize,

@@ -13,7 +13,7 @@ pub use gaps::is_white;
 pub use sizes::MOST;
 
 // The two sizes, one above 2^63 told as 2^63, and where the digits begin; `good` says whether the text is of the form that was looked for.
-#[derive(Drop)]
+#[derive(Clone, Copy)]
 pub struct Head {
     pub good: bool,
     pub width: u64,
@@ -22,7 +22,7 @@ pub struct Head {
 }
 
 // A size, one above 2^63 told as 2^63, and where it ends; zeros where there is none.
-#[derive(Drop)]
+#[derive(Clone, Copy)]
 struct Size {
     pub good: bool,
     pub value: u64,

@@ -6,7 +6,7 @@ ghost use Rattle.intake.specs.Steps.{counted};
 use libc::STDIN_FILENO;
 
 // How many bytes were read, or that reading failed.
-#[derive(Drop)]
+#[derive(Clone, Copy)]
 pub enum Input {
     Bytes(usize),
     Failed,

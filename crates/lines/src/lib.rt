@@ -9,7 +9,7 @@ mod line;
 pub use line::take_line;
 
 // What a field holds: a number; one outside 32 bits, or negative where it may not be; or none.
-#[derive(Drop)]
+#[derive(Clone, Copy)]
 enum Number {
     Whole(i32),
     Outside,
@@ -17,14 +17,14 @@ enum Number {
 }
 
 // How many fields a line has, 5 where it has more than four, and where the first four end.
-#[derive(Drop)]
+#[derive(Clone, Copy)]
 struct Parted {
     pub count: usize,
     pub ends: [usize; 4],
 }
 
 // What a line comes to: the number and the field of its first fault, zeros where it has none; and how many of its numbers were read, and these.
-#[derive(Drop)]
+#[derive(Clone, Copy)]
 struct Numbers {
     pub fault: u32,
     pub field: u32,
@@ -33,7 +33,7 @@ struct Numbers {
 }
 
 // The same of a line of a text, and where the next line begins.
-#[derive(Drop)]
+#[derive(Clone, Copy)]
 pub struct Taken {
     pub fault: u32,
     pub field: u32,

@@ -9,7 +9,7 @@ pub use cell::{bend_of, cell_record, colour_of, cut_cell, one_cell};
 pub use paint::paint_block;
 
 // What a walk has seen: cells visited, finest cells coloured, and the largest bend of these.
-#[derive(Drop)]
+#[derive(Clone, Copy)]
 pub struct Seen {
     pub visited: u32,
     pub coloured: u32,

@@ -10,7 +10,7 @@ ghost use Rattle.writing.specs.Steps.{Put};
 ghost use Rattle.printing.specs.Promises.{PrintPromise};
 
 // The number of bytes written, or a refusal.
-#[derive(Drop)]
+#[derive(Clone, Copy)]
 pub enum Printed {
     Bytes(usize),
     Refused(u32),

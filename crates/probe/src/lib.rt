@@ -1,4 +1,6 @@
 // The calls that walk nothing: check a sheet, value F at a point, bounds and bend of a cell.
+#![tactic(auto)]
+
 pub use verdicts::Verdict;
 
 mod refusals;
@@ -7,21 +9,21 @@ ghost use Rattle.page.specs.Sheet.{sheet_of};
 ghost use Rattle.probe.specs.Promises.{CheckPromise, ValuePromise, BoundsPromise};
 
 // Weight and spare places, or a refusal.
-#[derive(Drop)]
+#[derive(Clone, Copy)]
 pub enum Checked {
     Accepted { weight: u64, spare: u32 },
     Refused(u32),
 }
 
 // F at the point, or a refusal.
-#[derive(Drop)]
+#[derive(Clone, Copy)]
 pub enum Valued {
     At(i64),
     Refused(u32),
 }
 
 // The verdict on the cell, with both bounds and the bend; or a refusal.
-#[derive(Drop)]
+#[derive(Clone, Copy)]
 pub enum Bounded {
     Cell(Verdict),
     Refused(u32),

@@ -6,7 +6,7 @@ mod terms;
 ghost use Rattle.reading.specs.Promises.{ReadPromise};
 
 // A sheet as a text gives it, its unused coefficients zero; or the number of a refusal, the line and the field where they are meant, and zeros.
-#[derive(Drop)]
+#[derive(Clone, Copy)]
 pub struct Reading {
     pub refusal: u32,
     pub line: u32,
@@ -21,7 +21,7 @@ pub struct Reading {
 }
 
 // What is wrong with a text: the number of the fault, its line and its field; zeros where nothing is.
-#[derive(Drop)]
+#[derive(Clone, Copy)]
 struct Fault {
     pub number: u32,
     pub line: u32,
@@ -29,7 +29,7 @@ struct Fault {
 }
 
 // What is wrong with a term's line: the number of the fault and its field; or zeros, and where the next line begins, which says nothing beside a fault.
-#[derive(Drop)]
+#[derive(Clone, Copy)]
 struct Entered {
     pub number: u32,
     pub field: u32,
@@ -37,7 +37,7 @@ struct Entered {
 }
 
 // What the first four lines say, and where the fifth begins; or what is wrong, and zeros.
-#[derive(Drop)]
+#[derive(Clone, Copy)]
 struct Head {
     pub number: u32,
     pub line: u32,

@@ -11,14 +11,14 @@ ghost use Rattle.scanning.specs.Steps.{depth_or, PictureFound};
 use header::Head;
 
 // The depth of the side, or a refusal.
-#[derive(Drop)]
+#[derive(Clone, Copy)]
 pub enum Scanned {
     Depth(u32),
     Refused(u32),
 }
 
 // Where the last digit ends, or that there are too few.
-#[derive(Drop)]
+#[derive(Clone, Copy)]
 struct Data {
     pub good: bool,
     pub next: usize,

@@ -2,7 +2,7 @@
 // An inner crate: types, and no functions.
 
 // Above, below or open, with both bounds and the bend.
-#[derive(Drop)]
+#[derive(Clone, Copy)]
 pub enum Verdict {
     Above { lower: i64, upper: i64, bend: u64 },
     Below { lower: i64, upper: i64, bend: u64 },

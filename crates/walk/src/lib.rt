@@ -1,4 +1,6 @@
 // The calls that walk a sheet: its raster and its listing, each with the tally.
+#![tactic(auto)]
+
 mod examine;
 mod list;
 mod opening;
@@ -11,7 +13,7 @@ use local::Form;
 use marks::Seen;
 
 // The tally, or a refusal. The bend is the largest among coloured cells.
-#[derive(Drop)]
+#[derive(Clone, Copy)]
 pub enum Tallied {
     Tally {
         visited: u32,
@@ -22,7 +24,7 @@ pub enum Tallied {
 }
 
 // The number of records and the tally, or a refusal.
-#[derive(Drop)]
+#[derive(Clone, Copy)]
 pub enum Listed {
     Records {
         length: usize,
@@ -34,14 +36,14 @@ pub enum Listed {
 }
 
 // A walk begun: the number of the refusal, and no form; or 0, and the local form of the whole sheet.
-#[derive(Drop)]
+#[derive(Clone, Copy)]
 struct Begun {
     pub refusal: u32,
     pub form: Form,
 }
 
 // Where the records written so far end, and what the walk has seen.
-#[derive(Drop)]
+#[derive(Clone, Copy)]
 struct Entered {
     pub end: usize,
     pub seen: Seen,
