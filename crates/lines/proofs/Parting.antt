@@ -5,21 +5,20 @@ use mathlib.Core.List.{List, [], ◌∷◌}
 use Prim.Native.Nat.{ℕ, suc, ◌+◌, ◌-◌, ◌≤◌, ◌<◌}
 use native.Mathlib.Nat as Nat
 use native.Mathlib.Omega.{arith}
-use borrow.Author.Tests.{ltb-true, ltb-false}
+use borrow.Author.Tests.{ltb-true, ltb-false, eq-eqb, ne_eqb}
 use lib.Dec.{ltb, eqb}
-use lib.ListN.{length, take, drop, length-drop, drop_of_length-le}
-use lib.Seq.{take_all, take-length, drop-drop}
-use Rattle.bytes.specs.Bytes.{index_of, index_after, slice}
+use lib.ListN.{length, get_or, take, drop, length-drop, drop_of_length-le}
+use lib.Seq.{take_all, drop-cons, drop-drop}
 use Rattle.page.specs.SheetLine.{before_line, lines, before_field, fields}
-use Rattle.lines.specs.Steps.{line_of}
+use Rattle.lines.specs.Steps.{line_of, index_of, Finds}
 
 -- ---- the place of the first byte c
 index_here : (c x : ℕ) (l : List ℕ) → eqb x c ≡ true → index_of c (x ∷ l) ≡ 0
-unfolding index_of index_after
+unfolding index_of
 index_here c x l e = rw e
 
 index_on : (c x : ℕ) (l : List ℕ) → eqb x c ≡ false → index_of c (x ∷ l) ≡ suc (index_of c l)
-unfolding index_of index_after
+unfolding index_of
 index_on c x l e = rw e
 
 -- ---- bytes in parts: c ends one, and any other byte goes before the first
@@ -89,16 +88,36 @@ line_last (x ∷ l) s h = uncut 10 lines before_line (λ bs. line_of bs true) (�
 abbrev pub fields_after : List ℕ → ℕ → List (List ℕ)
 fields_after line at = cond (ltb at (length line)) (fields (drop (at + 1) line)) []
 
--- ---- by where they stand: `find` from a place on
-pub record Finds (c : ℕ) (l : List ℕ) (from end : ℕ) : Type 0 where
-  pub at : end ≡ from + index_of c (drop from l)
-  pub within : end ≤ length l
-  pub after : from ≤ length l
+-- ---- `find`: none of the bytes before a place is c
+pub record Seeking (c : ℕ) (l : List ℕ) (from at : ℕ) : Type 0 where
+  pub begun : from ≤ at
+  pub inside : at ≤ length l
+  pub passed : from + index_of c (drop from l) ≡ at + index_of c (drop at l)
 
-pub finds : (c : ℕ) (l : List ℕ) (from : ℕ) {end : ℕ} → end ≡ from + index_of c (slice from (length l) l) → end ≤ length l → from ≤ length l → Finds c l from end
-unfolding slice
-finds c l from e h g = record { at = e ∙ ap (λ m. from + index_of c (drop from m)) (take-length l); within = h; after = g }
+pub seeking_start : {c : ℕ} {l : List ℕ} {from : ℕ} → from ≤ length l → Seeking c l from from
+seeking_start h = record { begun = omega arith; inside = h; passed = refl }
 
+module _ {c : ℕ} {l : List ℕ} {from at : ℕ} (s : Seeking c l from at) where
+  pub seeking_found : at < length l → get_or l at 0 ≡ c → Finds c l from at
+  seeking_found h e =
+      let z : index_of c (drop at l) ≡ 0 = ap (index_of c) (drop-cons l at 0 h) ∙ index_here c (get_or l at 0) (drop (at + 1) l) (eq-eqb (get_or l at 0) c e) in
+      let p = s.passed in let b = s.begun in record { at = omega arith; within = s.inside; after = omega arith }
+
+  pub seeking_next : at < length l → (get_or l at 0 ≡ c → ⊥) → Seeking c l from (at + 1)
+  seeking_next h n =
+      let z : index_of c (drop at l) ≡ suc (index_of c (drop (at + 1) l)) = ap (index_of c) (drop-cons l at 0 h) ∙ index_on c (get_or l at 0) (drop (at + 1) l) (ne_eqb (get_or l at 0) c n) in
+      let p = s.passed in let b = s.begun in record { begun = omega arith; inside = omega arith; passed = omega arith }
+
+  pub seeking_end : length l ≤ at → Finds c l from at
+  seeking_end h =
+      let z : index_of c (drop at l) ≡ 0 = ap (index_of c) (drop_of_length-le l {i = at} h) ∙ none in
+      let p = s.passed in let b = s.begun in record { at = omega arith; within = s.inside; after = omega arith }
+    where
+      none : index_of c [] ≡ 0
+      unfolding index_of
+      none = refl
+
+-- ---- what a field and a line are, by where they end
 module _ (l : List ℕ) (from end : ℕ) where
   width : (c : ℕ) → Finds c l from end → end - from ≡ index_of c (drop from l)
   width c f = let e = f.at in omega (arith, e)

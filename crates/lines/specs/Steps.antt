@@ -21,6 +21,16 @@ signless_in n = cond (ltb 2_147_483_647 n) Number.Outside (Number.Whole (pos n))
 abbrev pub minus_in : Bool → ℕ → Number
 minus_in negative n = cond (eqb n 0) Number.Malformed (cond negative (cond (ltb 2_147_483_648 n) Number.Outside (Number.Whole (neg_ℤ (pos n)))) Number.Outside)
 
+-- ---- `find`: where the first byte c stands, from a place on; the end where there is none
+unfoldable pub index_of : ℕ → List ℕ → ℕ
+index_of c [] = 0
+index_of c (x ∷ l) = cond (eqb x c) 0 (suc (index_of c l))
+
+pub record Finds (c : ℕ) (l : List ℕ) (from end : ℕ) : Type 0 where
+  pub at : end ≡ from + index_of c (drop from l)
+  pub within : end ≤ length l
+  pub after : from ≤ length l
+
 -- ---- `part`: field i, from 0, stands from after the end of the one before it; fields are counted up to 5
 abbrev pub start_of : List ℕ → ℕ → ℕ
 start_of ends zero = 0

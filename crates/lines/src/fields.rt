@@ -4,6 +4,7 @@ ghost use Rattle.page.specs.SheetLine.{is_letter};
 ghost use Rattle.lines.specs.Steps.{Parts};
 
 use crate::Parted;
+use crate::finding::find;
 
 const TAB: u8 = 9;
 
@@ -13,14 +14,14 @@ pub fn part(line: &[u8]) -> Parted
 {
     let n = line.len();
     let mut ends = [0usize; 4];
-    let mut at = bytes::scan::find(line, 0, n, TAB);
+    let mut at = find(line, 0, TAB);
     ends[0] = at;
     let mut count = 1;
     while at < n {
         if count == 4 {
             return Parted { count: 5, ends };
         }
-        at = bytes::scan::find(line, at + 1, n, TAB);
+        at = find(line, at + 1, TAB);
         ends[count] = at;
         count += 1;
     }

@@ -4,6 +4,7 @@
 
 mod digits;
 mod fields;
+mod finding;
 mod line;
 
 pub use line::take_line;

@@ -140,7 +140,7 @@ pub fn take_line(text: &[u8], at: usize, letter: u8, count: usize, signs: [bool;
     if at == n {
         return no_line(at);
     }
-    let end = bytes::scan::find(text, at, n, LF);
+    let end = find(text, at, LF);
     let line = numbers_of(&text[at..end], letter, count, signs);
     closed(line, end, n)
 }

@@ -21,53 +21,53 @@ pub returns-then-first-ne0 : goal.returns-then-first-ne0
 returns-then-first-ne0 c =
     let sheet : Sheet = sheet_of c.args.d c.args.coefficients.now c.args.x c.args.y c.args.s c.args.k in
     let mode-is : c.mode_refusal-first.result ≡ mode_refusal sheet c.args.mode = rw (to_z-of_z c.ranges.x, to_z-of_z c.ranges.y) at c.mode_refusal-first.ensures in
-    mode-is ∙ stays (mode_refusal sheet c.args.mode) _ (λ z. c.if-first-ne0.taken (mode-is ∙ z)) ∙ sym (cell_rows sheet c.args.mode c.args.j c.args.p c.args.q)
+    mode-is ∙ stays (mode_refusal sheet c.args.mode) _ (λ z. c.if-first-ne0.true (mode-is ∙ z)) ∙ sym (cell_rows sheet c.args.mode c.args.j c.args.p c.args.q)
 
 pub returns-then-k-j : goal.returns-then-k-j
 returns-then-k-j c =
     let sheet : Sheet = sheet_of c.args.d c.args.coefficients.now c.args.x c.args.y c.args.s c.args.k in
     let mode-is : c.mode_refusal-first.result ≡ mode_refusal sheet c.args.mode = rw (to_z-of_z c.ranges.x, to_z-of_z c.ranges.y) at c.mode_refusal-first.ensures in
-    let after : refusal (in_cell sheet c.args.mode c.args.j c.args.p c.args.q) ≡ cond (misplaced sheet (cell c.args.j c.args.p c.args.q)) 8 0 = cell_rows sheet c.args.mode c.args.j c.args.p c.args.q ∙ rest _ (sym mode-is ∙ c.if-first-ne0.left) in
-    sym (after ∙ rw (lt-ltb c.args.k c.args.j c.if-k-j.taken))
+    let after : refusal (in_cell sheet c.args.mode c.args.j c.args.p c.args.q) ≡ cond (misplaced sheet (cell c.args.j c.args.p c.args.q)) 8 0 = cell_rows sheet c.args.mode c.args.j c.args.p c.args.q ∙ rest _ (sym mode-is ∙ c.if-first-ne0.false) in
+    sym (after ∙ rw (lt-ltb c.args.k c.args.j c.if-k-j.true))
 
 pub overflow_shl-columns : goal.overflow_shl-columns
 overflow_shl-columns c =
     let sheet : Sheet = sheet_of c.args.d c.args.coefficients.now c.args.x c.args.y c.args.s c.args.k in
     let mode-is : c.mode_refusal-first.result ≡ mode_refusal sheet c.args.mode = rw (to_z-of_z c.ranges.x, to_z-of_z c.ranges.y) at c.mode_refusal-first.ensures in
-    let level : c.args.j ≤ 7 = let r = (mode_passed sheet c.args.mode (sym mode-is ∙ c.if-first-ne0.left)).0.ranges.depth in omega arith in
+    let level : c.args.j ≤ 7 = let r = (mode_passed sheet c.args.mode (sym mode-is ∙ c.if-first-ne0.false)).0.ranges.depth in omega arith in
     let h = level in omega arith
 
 pub returns-then-columns-p : goal.returns-then-columns-p
 returns-then-columns-p c =
     let sheet : Sheet = sheet_of c.args.d c.args.coefficients.now c.args.x c.args.y c.args.s c.args.k in
     let mode-is : c.mode_refusal-first.result ≡ mode_refusal sheet c.args.mode = rw (to_z-of_z c.ranges.x, to_z-of_z c.ranges.y) at c.mode_refusal-first.ensures in
-    let after : refusal (in_cell sheet c.args.mode c.args.j c.args.p c.args.q) ≡ cond (misplaced sheet (cell c.args.j c.args.p c.args.q)) 8 0 = cell_rows sheet c.args.mode c.args.j c.args.p c.args.q ∙ rest _ (sym mode-is ∙ c.if-first-ne0.left) in
-    let level : c.args.j ≤ 7 = let r = (mode_passed sheet c.args.mode (sym mode-is ∙ c.if-first-ne0.left)).0.ranges.depth in omega arith in
+    let after : refusal (in_cell sheet c.args.mode c.args.j c.args.p c.args.q) ≡ cond (misplaced sheet (cell c.args.j c.args.p c.args.q)) 8 0 = cell_rows sheet c.args.mode c.args.j c.args.p c.args.q ∙ rest _ (sym mode-is ∙ c.if-first-ne0.false) in
+    let level : c.args.j ≤ 7 = let r = (mode_passed sheet c.args.mode (sym mode-is ∙ c.if-first-ne0.false)).0.ranges.depth in omega arith in
     let side-is : let j = c.args.j in 1 * 2 ^ j % 2 ^ 32 ≡ 2 ^ j = let j = c.args.j in let p : 2 ^ j ≤ 2 ^ 7 = pow_mono level in ap (λ x. x % 2 ^ 32) (Nat.one-mul (2 ^ j)) ∙ Nat.mod-eq_of_lt (omega arith) in
-    sym (after ∙ rw (le-ltb c.args.k c.args.j c.if-k-j.left, le-leb (2 ^ c.args.j) c.args.p (rw side-is at c.if-columns-p.taken)))
+    sym (after ∙ rw (le-ltb c.args.k c.args.j c.if-k-j.false, le-leb (2 ^ c.args.j) c.args.p (rw side-is at c.if-columns-p.true)))
 
 pub returns-then-columns-q : goal.returns-then-columns-q
 returns-then-columns-q c =
     let sheet : Sheet = sheet_of c.args.d c.args.coefficients.now c.args.x c.args.y c.args.s c.args.k in
     let mode-is : c.mode_refusal-first.result ≡ mode_refusal sheet c.args.mode = rw (to_z-of_z c.ranges.x, to_z-of_z c.ranges.y) at c.mode_refusal-first.ensures in
-    let after : refusal (in_cell sheet c.args.mode c.args.j c.args.p c.args.q) ≡ cond (misplaced sheet (cell c.args.j c.args.p c.args.q)) 8 0 = cell_rows sheet c.args.mode c.args.j c.args.p c.args.q ∙ rest _ (sym mode-is ∙ c.if-first-ne0.left) in
-    let level : c.args.j ≤ 7 = let r = (mode_passed sheet c.args.mode (sym mode-is ∙ c.if-first-ne0.left)).0.ranges.depth in omega arith in
+    let after : refusal (in_cell sheet c.args.mode c.args.j c.args.p c.args.q) ≡ cond (misplaced sheet (cell c.args.j c.args.p c.args.q)) 8 0 = cell_rows sheet c.args.mode c.args.j c.args.p c.args.q ∙ rest _ (sym mode-is ∙ c.if-first-ne0.false) in
+    let level : c.args.j ≤ 7 = let r = (mode_passed sheet c.args.mode (sym mode-is ∙ c.if-first-ne0.false)).0.ranges.depth in omega arith in
     let side-is : let j = c.args.j in 1 * 2 ^ j % 2 ^ 32 ≡ 2 ^ j = let j = c.args.j in let p : 2 ^ j ≤ 2 ^ 7 = pow_mono level in ap (λ x. x % 2 ^ 32) (Nat.one-mul (2 ^ j)) ∙ Nat.mod-eq_of_lt (omega arith) in
     sym (after ∙ rw (
-      le-ltb c.args.k c.args.j c.if-k-j.left,
-      lt-leb (2 ^ c.args.j) c.args.p (rw side-is at c.if-columns-p.left),
-      le-leb (2 ^ c.args.j) c.args.q (rw side-is at c.if-columns-q.taken),
+      le-ltb c.args.k c.args.j c.if-k-j.false,
+      lt-leb (2 ^ c.args.j) c.args.p (rw side-is at c.if-columns-p.false),
+      le-leb (2 ^ c.args.j) c.args.q (rw side-is at c.if-columns-q.true),
     ))
 
 pub returns : goal.returns
 returns c =
     let sheet : Sheet = sheet_of c.args.d c.args.coefficients.now c.args.x c.args.y c.args.s c.args.k in
     let mode-is : c.mode_refusal-first.result ≡ mode_refusal sheet c.args.mode = rw (to_z-of_z c.ranges.x, to_z-of_z c.ranges.y) at c.mode_refusal-first.ensures in
-    let after : refusal (in_cell sheet c.args.mode c.args.j c.args.p c.args.q) ≡ cond (misplaced sheet (cell c.args.j c.args.p c.args.q)) 8 0 = cell_rows sheet c.args.mode c.args.j c.args.p c.args.q ∙ rest _ (sym mode-is ∙ c.if-first-ne0.left) in
-    let level : c.args.j ≤ 7 = let r = (mode_passed sheet c.args.mode (sym mode-is ∙ c.if-first-ne0.left)).0.ranges.depth in omega arith in
+    let after : refusal (in_cell sheet c.args.mode c.args.j c.args.p c.args.q) ≡ cond (misplaced sheet (cell c.args.j c.args.p c.args.q)) 8 0 = cell_rows sheet c.args.mode c.args.j c.args.p c.args.q ∙ rest _ (sym mode-is ∙ c.if-first-ne0.false) in
+    let level : c.args.j ≤ 7 = let r = (mode_passed sheet c.args.mode (sym mode-is ∙ c.if-first-ne0.false)).0.ranges.depth in omega arith in
     let side-is : let j = c.args.j in 1 * 2 ^ j % 2 ^ 32 ≡ 2 ^ j = let j = c.args.j in let p : 2 ^ j ≤ 2 ^ 7 = pow_mono level in ap (λ x. x % 2 ^ 32) (Nat.one-mul (2 ^ j)) ∙ Nat.mod-eq_of_lt (omega arith) in
     sym (after ∙ rw (
-      le-ltb c.args.k c.args.j c.if-k-j.left,
-      lt-leb (2 ^ c.args.j) c.args.p (rw side-is at c.if-columns-p.left),
-      lt-leb (2 ^ c.args.j) c.args.q (rw side-is at c.if-columns-q.left),
+      le-ltb c.args.k c.args.j c.if-k-j.false,
+      lt-leb (2 ^ c.args.j) c.args.p (rw side-is at c.if-columns-p.false),
+      lt-leb (2 ^ c.args.j) c.args.q (rw side-is at c.if-columns-q.false),
     ))

@@ -21,13 +21,13 @@ pub returns-then-first-ne0 : goal.returns-then-first-ne0
 returns-then-first-ne0 c =
     let sheet : Sheet = sheet_of c.args.d c.args.coefficients.now c.args.x c.args.y c.args.s c.args.k in
     let mode-is : c.mode_refusal-first.result ≡ mode_refusal sheet c.args.mode = rw (to_z-of_z c.ranges.x, to_z-of_z c.ranges.y) at c.mode_refusal-first.ensures in
-    mode-is ∙ stays (mode_refusal sheet c.args.mode) _ (λ z. c.if-first-ne0.taken (mode-is ∙ z)) ∙ sym (walk_rows sheet c.args.mode c.args.entries)
+    mode-is ∙ stays (mode_refusal sheet c.args.mode) _ (λ z. c.if-first-ne0.true (mode-is ∙ z)) ∙ sym (walk_rows sheet c.args.mode c.args.entries)
 
 pub overflow_mul-k : goal.overflow_mul-k
 overflow_mul-k c =
     let sheet : Sheet = sheet_of c.args.d c.args.coefficients.now c.args.x c.args.y c.args.s c.args.k in
     let mode-is : c.mode_refusal-first.result ≡ mode_refusal sheet c.args.mode = rw (to_z-of_z c.ranges.x, to_z-of_z c.ranges.y) at c.mode_refusal-first.ensures in
-    let depth : c.args.k ≤ 7 = (mode_passed sheet c.args.mode (sym mode-is ∙ c.if-first-ne0.left)).0.ranges.depth in
+    let depth : c.args.k ≤ 7 = (mode_passed sheet c.args.mode (sym mode-is ∙ c.if-first-ne0.false)).0.ranges.depth in
     omega (arith, depth)
 
 pub overflow_cast-k : goal.overflow_cast-k
@@ -37,23 +37,23 @@ pub overflow_shl-k : goal.overflow_shl-k
 overflow_shl-k c =
     let sheet : Sheet = sheet_of c.args.d c.args.coefficients.now c.args.x c.args.y c.args.s c.args.k in
     let mode-is : c.mode_refusal-first.result ≡ mode_refusal sheet c.args.mode = rw (to_z-of_z c.ranges.x, to_z-of_z c.ranges.y) at c.mode_refusal-first.ensures in
-    let depth : c.args.k ≤ 7 = (mode_passed sheet c.args.mode (sym mode-is ∙ c.if-first-ne0.left)).0.ranges.depth in
+    let depth : c.args.k ≤ 7 = (mode_passed sheet c.args.mode (sym mode-is ∙ c.if-first-ne0.false)).0.ranges.depth in
     omega (arith, depth)
 
 pub returns-then-entries-k : goal.returns-then-entries-k
 returns-then-entries-k c =
     let sheet : Sheet = sheet_of c.args.d c.args.coefficients.now c.args.x c.args.y c.args.s c.args.k in
     let mode-is : c.mode_refusal-first.result ≡ mode_refusal sheet c.args.mode = rw (to_z-of_z c.ranges.x, to_z-of_z c.ranges.y) at c.mode_refusal-first.ensures in
-    let depth : c.args.k ≤ 7 = (mode_passed sheet c.args.mode (sym mode-is ∙ c.if-first-ne0.left)).0.ranges.depth in
-    let after : refusal (to_walk sheet c.args.mode c.args.entries) ≡ cond (ltb c.args.entries (4 ^ c.args.k)) 7 0 = walk_rows sheet c.args.mode c.args.entries ∙ rest _ (sym mode-is ∙ c.if-first-ne0.left) ∙ ap (λ b. cond (ltb c.args.entries (4 ^ c.args.k)) 7 (cond b 9 0)) (no_row_9 sheet c.args.mode depth) in
+    let depth : c.args.k ≤ 7 = (mode_passed sheet c.args.mode (sym mode-is ∙ c.if-first-ne0.false)).0.ranges.depth in
+    let after : refusal (to_walk sheet c.args.mode c.args.entries) ≡ cond (ltb c.args.entries (4 ^ c.args.k)) 7 0 = walk_rows sheet c.args.mode c.args.entries ∙ rest _ (sym mode-is ∙ c.if-first-ne0.false) ∙ ap (λ b. cond (ltb c.args.entries (4 ^ c.args.k)) 7 (cond b 9 0)) (no_row_9 sheet c.args.mode depth) in
     let cells_are : let k = c.args.k in 1 * 2 ^ (2 * k) % 2 ^ 64 ≡ 4 ^ k = four_shifted c.args.k depth in
-    sym (after ∙ rw (lt-ltb c.args.entries (4 ^ c.args.k) (omega (arith, cells_are, c.if-entries-k.taken))))
+    sym (after ∙ rw (lt-ltb c.args.entries (4 ^ c.args.k) (omega (arith, cells_are, c.if-entries-k.true))))
 
 pub returns : goal.returns
 returns c =
     let sheet : Sheet = sheet_of c.args.d c.args.coefficients.now c.args.x c.args.y c.args.s c.args.k in
     let mode-is : c.mode_refusal-first.result ≡ mode_refusal sheet c.args.mode = rw (to_z-of_z c.ranges.x, to_z-of_z c.ranges.y) at c.mode_refusal-first.ensures in
-    let depth : c.args.k ≤ 7 = (mode_passed sheet c.args.mode (sym mode-is ∙ c.if-first-ne0.left)).0.ranges.depth in
-    let after : refusal (to_walk sheet c.args.mode c.args.entries) ≡ cond (ltb c.args.entries (4 ^ c.args.k)) 7 0 = walk_rows sheet c.args.mode c.args.entries ∙ rest _ (sym mode-is ∙ c.if-first-ne0.left) ∙ ap (λ b. cond (ltb c.args.entries (4 ^ c.args.k)) 7 (cond b 9 0)) (no_row_9 sheet c.args.mode depth) in
+    let depth : c.args.k ≤ 7 = (mode_passed sheet c.args.mode (sym mode-is ∙ c.if-first-ne0.false)).0.ranges.depth in
+    let after : refusal (to_walk sheet c.args.mode c.args.entries) ≡ cond (ltb c.args.entries (4 ^ c.args.k)) 7 0 = walk_rows sheet c.args.mode c.args.entries ∙ rest _ (sym mode-is ∙ c.if-first-ne0.false) ∙ ap (λ b. cond (ltb c.args.entries (4 ^ c.args.k)) 7 (cond b 9 0)) (no_row_9 sheet c.args.mode depth) in
     let cells_are : let k = c.args.k in 1 * 2 ^ (2 * k) % 2 ^ 64 ≡ 4 ^ k = four_shifted c.args.k depth in
-    sym (after ∙ rw (le-ltb c.args.entries (4 ^ c.args.k) (omega (arith, cells_are, c.if-entries-k.left))))
+    sym (after ∙ rw (le-ltb c.args.entries (4 ^ c.args.k) (omega (arith, cells_are, c.if-entries-k.false))))

@@ -1,0 +1,9 @@
+-- The levels left: examining a cell comes before cutting it.
+use Prim.Native.Nat.{◌+◌, ◌*◌, ◌-◌}
+use Rattle.walk.proofs.examine.+cut_examine.Given as goal
+
+abbrev pub decreases-cut : goal.decreases-cut
+decreases-cut l = 2 * (l.k - l.level)
+
+abbrev pub decreases-examine : goal.decreases-examine
+decreases-examine l = 2 * (l.k - l.level) + 1

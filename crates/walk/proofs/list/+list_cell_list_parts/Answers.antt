@@ -1,0 +1,110 @@
+-- `walk::list::list_cell` and `walk::list::list_parts` meet their contracts, the two in one proof: k minus level falls.
+use mathlib.Core.Path.{◌≡◌, sym, ◌∙◌, ap}
+use mathlib.Core.List.{[], ◌∷◌}
+use Prim.Native.Nat.{ℕ, ◌+◌, ◌*◌, ◌-◌, ◌≤◌, ◌<◌}
+use native.Mathlib.Omega.{arith}
+use lib.IntN.{ℤ}
+use lib.ListN.{length}
+use mir.Facts.{to_z-of_z}
+use Rattle.forms.specs.Bounds.{mode_of}
+use Rattle.verdicts.specs.Judging.{carried_bend}
+use Rattle.verdicts.specs.Walking.{colour_of}
+use Rattle.page.specs.Sheet.{Sheet}
+use Rattle.page.specs.Bounds.{verdict}
+use Rattle.local.specs.Range.{judged_by}
+use Rattle.page.proofs.Cells.{column_small, row_small}
+use Rattle.cells.proofs.Parts.{Side, left, right}
+use Rattle.walk.specs.Steps.{NearForm, OwnForm, Owned, Carried}
+use Rattle.walk.proofs.Cells.{open_by, Settled, settled, few, depth_small, column_fits, row_fits, may_move, moved_own, own_light, own_judged, carried_part}
+use Rattle.walk.proofs.Recording.{room_one, room_first, room_second, room_third, room_fourth, recorded_one, recorded_cut}
+use Rattle.walk.proofs.list.+list_cell_list_parts.Goals as goal
+use Rattle.walk.proofs.list.+list_cell_list_parts.Goals.{list_cell-then-colour-eq1+else-level-k, list_cell-else-colour-eq1}
+
+-- ---- `list_cell`: the form is the cell's own, and the verdict the page's, whichever sheet it is
+pub list_cell-range_on-requires : goal.list_cell-range_on-requires
+list_cell-range_on-requires t c =
+    let h = c.requires.0 in
+    own_light (moved_own (rw (to_z-of_z c.ranges.across, to_z-of_z c.ranges.along) at c.to_part.ensures) h.sheet h.near)
+
+pub list_cell-list_parts-requires : goal.list_cell-list_parts-requires
+list_cell-list_parts-requires t c =
+    let h = c.requires.0 in
+    (omega arith, (
+      record { sheet = h.sheet; own = moved_own (rw (to_z-of_z c.ranges.across, to_z-of_z c.ranges.along) at c.to_part.ensures) h.sheet h.near },
+      c.requires.1,
+      c.if-level-k.true,
+    ))
+
+pub list_cell-returns-then-level-k : goal.list_cell-returns-then-level-k
+list_cell-returns-then-level-k t c S n =
+    let a = c.args in
+    let own = moved_own (rw (to_z-of_z c.ranges.across, to_z-of_z c.ranges.along) at c.to_part.ensures) S n in
+    let judged : c.judge-verdict.result ≡ verdict S (mode_of a.mode) a.level a.p a.q = c.judge-verdict.ensures ∙ ap judged_by c.range_on.ensures ∙ own_judged own (mode_of a.mode) in
+    let painted : c.colour_of-colour.result ≡ colour_of (verdict S (mode_of a.mode) a.level a.p a.q ∷ []) = c.colour_of-colour.ensures ∙ ap (λ w. colour_of (w ∷ [])) judged in
+    c.list_parts.ensures S own (sym painted ∙ c.if-colour-eq1.true)
+
+-- the place has an entry for the record of the cell itself
+pub list_cell-bounds-place-at : goal.list_cell-bounds-place-at
+list_cell-bounds-place-at t c = let a = c.args in room_one a.k a.level a.at a.place.now c.requires.1
+
+pub list_cell-returns : goal.list_cell-returns
+list_cell-returns t c S n =
+    let a = c.args in
+    let own = moved_own (rw (to_z-of_z c.ranges.across, to_z-of_z c.ranges.along) at c.to_part.ensures) S n in
+    let judged : c.judge-verdict.result ≡ verdict S (mode_of a.mode) a.level a.p a.q = c.judge-verdict.ensures ∙ ap judged_by c.range_on.ensures ∙ own_judged own (mode_of a.mode) in
+    let painted : c.colour_of-colour.result ≡ colour_of (verdict S (mode_of a.mode) a.level a.p a.q ∷ []) = c.colour_of-colour.ensures ∙ ap (λ w. colour_of (w ∷ [])) judged in
+    let whole : c.colour_of-colour.result ≡ 1 → a.k - a.level ≡ 0 = λ e. elim c.if-colour-eq1.branch [
+      | list_cell-then-colour-eq1+else-level-k w ↦ let l = w.if-level-k.false in omega arith
+      | list_cell-else-colour-eq1 w ↦ absurd (w.if-colour-eq1.false e)
+    ] in
+    rw (c.cell_record.ensures, c.one_cell-seen.ensures, c.bend_of.ensures ∙ ap carried_bend judged) (recorded_one (settled _ _ _ _ _ _ painted whole))
+
+-- ---- `list_parts`
+pub list_parts-list_cell-a-requires : goal.list_parts-list_cell-a-requires
+list_parts-list_cell-a-requires t c =
+    let o = c.requires.0 in
+    (omega arith, (
+      record { sheet = o.sheet; near = carried_part o.sheet c.requires.2 (search (left, right)) (search (left, right)) (omega arith) (omega arith) o.own c.halve.ensures },
+      room_first _ _ _ c.args.place.now c.requires.2 c.requires.1,
+    ))
+
+pub list_parts-list_cell-b-requires : goal.list_parts-list_cell-b-requires
+list_parts-list_cell-b-requires t c =
+    let o = c.requires.0 in
+    (omega arith, (
+      record { sheet = o.sheet; near = carried_part o.sheet c.requires.2 (search (left, right)) (search (left, right)) (omega arith) (omega arith) o.own c.halve.ensures },
+      room_second _ _ _ _ c.requires.2 c.requires.1 (c.list_cell-a.ensures o.sheet (carried_part o.sheet c.requires.2 (search (left, right)) (search (left, right)) (omega arith) (omega arith) o.own c.halve.ensures)),
+    ))
+
+pub list_parts-list_cell-c-requires : goal.list_parts-list_cell-c-requires
+list_parts-list_cell-c-requires t c =
+    let o = c.requires.0 in
+    (omega arith, (
+      record { sheet = o.sheet; near = carried_part o.sheet c.requires.2 (search (left, right)) (search (left, right)) (omega arith) (omega arith) o.own c.halve.ensures },
+      room_third _ _ _ _ c.requires.2 c.requires.1 (c.list_cell-a.ensures o.sheet (carried_part o.sheet c.requires.2 (search (left, right)) (search (left, right)) (omega arith) (omega arith) o.own c.halve.ensures)) (c.list_cell-b.ensures o.sheet (carried_part o.sheet c.requires.2 (search (left, right)) (search (left, right)) (omega arith) (omega arith) o.own c.halve.ensures)),
+    ))
+
+pub list_parts-list_cell-d-requires : goal.list_parts-list_cell-d-requires
+list_parts-list_cell-d-requires t c =
+    let o = c.requires.0 in
+    (omega arith, (
+      record { sheet = o.sheet; near = carried_part o.sheet c.requires.2 (search (left, right)) (search (left, right)) (omega arith) (omega arith) o.own c.halve.ensures },
+      room_fourth _ _ _ _ c.requires.2 c.requires.1 (c.list_cell-a.ensures o.sheet (carried_part o.sheet c.requires.2 (search (left, right)) (search (left, right)) (omega arith) (omega arith) o.own c.halve.ensures)) (c.list_cell-b.ensures o.sheet (carried_part o.sheet c.requires.2 (search (left, right)) (search (left, right)) (omega arith) (omega arith) o.own c.halve.ensures)) (c.list_cell-c.ensures o.sheet (carried_part o.sheet c.requires.2 (search (left, right)) (search (left, right)) (omega arith) (omega arith) o.own c.halve.ensures)),
+    ))
+
+pub list_parts-cut_cell-seen-requires : goal.list_parts-cut_cell-seen-requires
+list_parts-cut_cell-seen-requires t c =
+    let o = c.requires.0 in let l = depth_small o in (
+      few _ _ _ _ _ _ l (c.list_cell-a.ensures o.sheet (carried_part o.sheet c.requires.2 (search (left, right)) (search (left, right)) (omega arith) (omega arith) o.own c.halve.ensures)).counted,
+      few _ _ _ _ _ _ l (c.list_cell-b.ensures o.sheet (carried_part o.sheet c.requires.2 (search (left, right)) (search (left, right)) (omega arith) (omega arith) o.own c.halve.ensures)).counted,
+      few _ _ _ _ _ _ l (c.list_cell-c.ensures o.sheet (carried_part o.sheet c.requires.2 (search (left, right)) (search (left, right)) (omega arith) (omega arith) o.own c.halve.ensures)).counted,
+      few _ _ _ _ _ _ l (c.list_cell-d.ensures o.sheet (carried_part o.sheet c.requires.2 (search (left, right)) (search (left, right)) (omega arith) (omega arith) o.own c.halve.ensures)).counted,
+    )
+
+pub list_parts-returns : goal.list_parts-returns
+list_parts-returns t c S f e =
+    rw c.cut_cell-seen.ensures (recorded_cut c.requires.2 (open_by _ e)
+    (c.list_cell-a.ensures S (carried_part S c.requires.2 (search (left, right)) (search (left, right)) (omega arith) (omega arith) f c.halve.ensures))
+    (c.list_cell-b.ensures S (carried_part S c.requires.2 (search (left, right)) (search (left, right)) (omega arith) (omega arith) f c.halve.ensures))
+    (c.list_cell-c.ensures S (carried_part S c.requires.2 (search (left, right)) (search (left, right)) (omega arith) (omega arith) f c.halve.ensures))
+    (c.list_cell-d.ensures S (carried_part S c.requires.2 (search (left, right)) (search (left, right)) (omega arith) (omega arith) f c.halve.ensures)))
