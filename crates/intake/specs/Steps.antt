@@ -1,7 +1,6 @@
 -- What an inner contract says of the bytes that were read.
 use Rattle.std.specs.Prelude.{ℕ}
 use Rattle.intake.specs.declared.Input.{Input}
-use Rattle.intake.specs.declared.Input.TheVariants as Input
 
 -- how many they are
 abbrev pub counted : Input → ℕ

@@ -1,0 +1,9 @@
+-- What was read lies within the place, and what is left of the place falls.
+use Rattle.std.proofs.Common.{length, ◌-◌, ◌≡◌, ◌≤◌}
+use Rattle.intake.proofs.read_all.Given as goal
+
+abbrev pub invariant-loop-at : goal.invariant-loop-at
+invariant-loop-at g l = (l.at ≤ length l.place) × (length l.place ≡ length l.fn.place)
+
+abbrev pub decreases-loop-at : goal.decreases-loop-at
+decreases-loop-at g l = length l.fn.place - l.at
