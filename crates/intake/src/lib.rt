@@ -3,7 +3,7 @@
 #![tactic(auto)]
 
 ghost use Rattle.std.specs.Prelude.{◌≡◌, ◌≤◌, length};
-ghost use Rattle.intake.specs.Steps.{counted};
+ghost use Rattle.intake.specs.Steps.{counted, ReadOnce, ReadOn};
 
 use std::io::Read;
 
@@ -23,7 +23,8 @@ pub fn text_space() -> [u8; 8193]
 
 // Reads once.
 fn read_more<R: Read>(from: &mut R, part: &mut [u8]) -> Input
-    ensures { counted result ≤ length part.new }
+    ensures within { counted result ≤ length part.new }
+    ensures bytes { ReadOnce result (R.remaining from.old) (R.remaining from.new) part.new }
 {
     match from.read(part) {
         Ok(n) => Input::Bytes(n),
@@ -33,7 +34,8 @@ fn read_more<R: Read>(from: &mut R, part: &mut [u8]) -> Input
 
 // Fills the place from what is read, until it is full or the input ends.
 pub fn read_all<R: Read>(from: &mut R, place: &mut [u8]) -> Input
-    ensures { counted result ≤ length place.new }
+    ensures within { counted result ≤ length place.new }
+    ensures bytes { ReadOn result (R.remaining from.old) (R.remaining from.new) place.new }
 {
     let mut at = 0;
     while at < place.len() {

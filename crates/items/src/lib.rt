@@ -4,7 +4,8 @@
 // An inner crate: what its functions require, every caller proves.
 #![tactic(auto)]
 
-ghost use Rattle.std.specs.Prelude.{◌≤◌, ◌<◌};
+ghost use Rattle.std.specs.Prelude.{◌≤◌, ◌<◌, IsTrue};
+ghost use Rattle.std.specs.Io.KnownBytes.{Consumes};
 
 use std::io::Read;
 use words::number;
@@ -27,8 +28,10 @@ pub fn within(head: &[u8; 28], i: usize, most: usize) -> usize
     if n < most { n } else { most }
 }
 
-// Reads as many bytes as there are places for them; false where fewer are left.
-pub fn read<R: Read>(from: &mut R, given: &mut [u8]) -> bool {
+// Reads as many bytes as there are places for them, the next ones; false where fewer are left.
+pub fn read<R: Read>(from: &mut R, given: &mut [u8]) -> bool
+    ensures { IsTrue result → Consumes (R.remaining from.old) (R.remaining from.new) given.new }
+{
     from.read_exact(given).is_ok()
 }
 
