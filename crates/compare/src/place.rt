@@ -6,7 +6,7 @@ ghost use Rattle.std.specs.Prelude.{◌≡◌, ◌+◌, ◌*◌, ◌≤◌, leng
 use crate::answer::{bytes, of_listing, of_raster};
 use crate::case::*;
 use crate::coding::{signed, word};
-use libc::{STDIN_FILENO, STDOUT_FILENO};
+use std::io::{Read, Write};
 use words::number;
 
 // The most entries that a place has: those of the finest grid and 32 more.
@@ -70,19 +70,14 @@ fn put_entries(out: &mut [u8], place: &[u32])
 }
 
 // Reads so many bytes as there are; false where fewer are left.
-fn read(given: &mut [u8]) -> bool {
-    let n = given.len();
-    io::read_full(STDIN_FILENO, given) == n
+fn read<R: Read>(from: &mut R, given: &mut [u8]) -> bool {
+    from.read_exact(given).is_ok()
 }
 
 // The five words, then the place.
-fn write(words: [u64; 5], place: &[u8]) -> bool {
+fn write<W: Write>(to: &mut W, words: [u64; 5], place: &[u8]) -> bool {
     let out = bytes(words);
-    if io::write_all(STDOUT_FILENO, &out) {
-        io::write_all(STDOUT_FILENO, place)
-    } else {
-        false
-    }
+    to.write_all(&out).is_ok() && to.write_all(place).is_ok()
 }
 
 fn rastered(case: &[u8; 320], coefficients: &[i32], place: &mut [u8]) -> [u64; 5] {
@@ -116,17 +111,17 @@ fn listed(case: &[u8; 320], coefficients: &[i32], place: &mut [u32]) -> [u64; 5]
 }
 
 // Lends a raster a place of the asked length; false where the input ends within it, or the answer can't be written.
-pub fn raster(case: &[u8; 320]) -> bool {
+pub fn raster<R: Read, W: Write>(from: &mut R, to: &mut W, case: &[u8; 320]) -> bool {
     let all = coefficients_of(case);
     let count = count_of(case);
     let entries = entries_of(case);
     let mut space = raster_space();
     let place = &mut space[..entries];
-    if !read(place) {
+    if !read(from, place) {
         return false;
     }
     let words = rastered(case, &all[..count], place);
-    write(words, place)
+    write(to, words, place)
 }
 
 // Lends a listing the entries that the bytes hold, and leaves in the bytes what becomes of them.
@@ -141,15 +136,15 @@ fn relisted(case: &[u8; 320], place: &mut [u32], held: &mut [u8]) -> [u64; 5]
     words
 }
 
-pub fn listing(case: &[u8; 320]) -> bool {
+pub fn listing<R: Read, W: Write>(from: &mut R, to: &mut W, case: &[u8; 320]) -> bool {
     let entries = entries_of(case);
     let n = 4 * entries;
     let mut out = byte_space();
     let held = &mut out[..n];
-    if !read(held) {
+    if !read(from, held) {
         return false;
     }
     let mut space = listing_space();
     let words = relisted(case, &mut space[..entries], held);
-    write(words, held)
+    write(to, words, held)
 }

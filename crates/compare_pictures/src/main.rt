@@ -5,11 +5,13 @@
 // one. So every entry of a place can be chosen. For each item standard output has a word of eight bytes with the refusal's number, a word with the
 // answer, and all of the place, as the call left it. An item whose call is 3 has only its seven numbers, and asks for the place that
 // `reply::picture_place` makes: all of it is written, and nothing else. The program ends where the input does.
+#![tactic(auto)]
+
 ghost use Rattle.std.specs.Prelude.{◌≡◌, length};
 
-use libc::{STDIN_FILENO, STDOUT_FILENO};
 use printing::Printed;
 use scanning::Scanned;
+use std::io::{Read, Write};
 use words::put;
 
 // The longest raster or text, and the longest place, that is held.
@@ -79,22 +81,28 @@ fn answer_of(call: usize, k: u32, input: &[u8], place: &mut [u8]) -> Answer {
 }
 
 // Writes an answer and the place; false where that can't be written.
-fn shown(answer: Answer, place: &[u8]) -> bool {
+fn shown<W: Write>(to: &mut W, answer: Answer, place: &[u8]) -> bool {
     let mut out = [0u8; 16];
     put(&mut out, 0, answer.number as u64);
     put(&mut out, 8, answer.value as u64);
-    io::write_all(STDOUT_FILENO, &out) && io::write_all(STDOUT_FILENO, place)
+    to.write_all(&out).is_ok() && to.write_all(place).is_ok()
 }
 
 // Writes the place that `reply::picture_place` makes.
-fn made() -> bool {
+fn made<W: Write>(to: &mut W) -> bool {
     let place = reply::picture_place();
-    io::write_all(STDOUT_FILENO, &place)
+    to.write_all(&place).is_ok()
 }
 
 // Lends the call the place; false where the input ends before that is held, or the answer can't be written.
-fn lent(head: &[u8; 28], input: &[u8], place: &mut [u8]) -> bool {
-    if !items::hold(head, BYTE, place) {
+fn lent<R: Read, W: Write>(
+    from: &mut R,
+    to: &mut W,
+    head: &[u8; 28],
+    input: &[u8],
+    place: &mut [u8],
+) -> bool {
+    if !items::hold(from, head, BYTE, place) {
         return false;
     }
     let answer = answer_of(
@@ -103,42 +111,41 @@ fn lent(head: &[u8; 28], input: &[u8], place: &mut [u8]) -> bool {
         input,
         place,
     );
-    shown(answer, place)
+    shown(to, answer, place)
 }
 
 // Reads one item and writes what comes of it; false where no whole item is left, or the answer can't be written.
-fn one_item(text: &mut [u8], place: &mut [u8]) -> bool
+fn one_item<R: Read, W: Write>(from: &mut R, to: &mut W, text: &mut [u8], place: &mut [u8]) -> bool
     requires { (length text.old ≡ 65600) × (length place.old ≡ 65600) }
 {
     let mut head = [0u8; 28];
-    let got = io::read_full(STDIN_FILENO, &mut head);
-    if got < 28 {
+    if !items::read(from, &mut head) {
         return false;
     }
     if items::at(&head, CALL) == MADE {
-        return made();
+        return made(to);
     }
     let n = items::within(&head, INPUT, LONGEST);
     let entries = items::within(&head, PLACE, LONGEST);
     let input = &mut text[..n];
-    if !items::read(input) {
+    if !items::read(from, input) {
         return false;
     }
-    lent(&head, input, &mut place[..entries])
+    lent(from, to, &head, input, &mut place[..entries])
 }
 
 // A proved loop has to end, and nothing says that the input does: the items are counted down from a number that no run uses up.
-fn all_items(text: &mut [u8], place: &mut [u8])
+fn all_items<R: Read, W: Write>(from: &mut R, to: &mut W, text: &mut [u8], place: &mut [u8])
     requires { (length text.old ≡ 65600) × (length place.old ≡ 65600) }
 {
     let mut left = u64::MAX;
-    while left > 0 && one_item(text, place) {
+    while left > 0 && one_item(from, to, text, place) {
         left -= 1;
     }
 }
 
-fn main() {
+fn main(rt: HostRuntime) {
     let mut text = space();
     let mut place = space();
-    all_items(&mut text, &mut place);
+    all_items(&mut rt.stdin(), &mut rt.stdout(), &mut text, &mut place);
 }

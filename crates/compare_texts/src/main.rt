@@ -7,11 +7,13 @@
 // (`sheet`), a word with what `answer` answers, and the first and the last entries of the place, so many as are asked for, as the call left
 // them. An item whose first number is 2^32 - 1 has only its seven numbers, and asks for the place that `reply::place` makes: all of it is written,
 // and nothing else. The program ends where the input does.
+#![tactic(auto)]
+
 mod sheet;
 
 ghost use Rattle.std.specs.Prelude.{◌≡◌, ◌≤◌, length};
 
-use libc::{STDIN_FILENO, STDOUT_FILENO};
+use std::io::{Read, Write};
 
 // The longest text, and the longest place, that is held.
 const LONGEST: usize = 262_144;
@@ -45,66 +47,71 @@ fn place_space() -> [u8; 262208]
 }
 
 // Writes the place that `reply::place` makes.
-fn made() -> bool {
+fn made<W: Write>(to: &mut W) -> bool {
     let place = reply::place();
-    io::write_all(STDOUT_FILENO, &place)
+    to.write_all(&place).is_ok()
 }
 
 // Writes what comes of a text, and the first and the last entries of the place; false where that can't be written.
-fn answered(input: &[u8], place: &mut [u8], first: usize, last: usize) -> bool
+fn answered<W: Write>(to: &mut W, input: &[u8], place: &mut [u8], first: usize, last: usize) -> bool
     requires { (first ≤ length place.old) × (last ≤ length place.old) }
 {
     let n = reply::answer(input, place);
     let out = sheet::words_of(reading::read(input), n as u64);
     let from = place.len() - last;
-    io::write_all(STDOUT_FILENO, &out)
-        && io::write_all(STDOUT_FILENO, &place[..first])
-        && io::write_all(STDOUT_FILENO, &place[from..])
+    to.write_all(&out).is_ok()
+        && to.write_all(&place[..first]).is_ok()
+        && to.write_all(&place[from..]).is_ok()
 }
 
 // Lends `answer` the place; false where the input ends before that is held, or the answer can't be written.
-fn lent(head: &[u8; 28], input: &[u8], place: &mut [u8]) -> bool {
-    if !items::hold(head, BYTE, place) {
+fn lent<R: Read, W: Write>(
+    from: &mut R,
+    to: &mut W,
+    head: &[u8; 28],
+    input: &[u8],
+    place: &mut [u8],
+) -> bool {
+    if !items::hold(from, head, BYTE, place) {
         return false;
     }
     let first = items::within(head, FIRST, place.len());
     let last = items::within(head, LAST, place.len());
-    answered(input, place, first, last)
+    answered(to, input, place, first, last)
 }
 
 // Reads one item and writes what comes of it; false where no whole item is left, or the answer can't be written.
-fn one_item(text: &mut [u8], place: &mut [u8]) -> bool
+fn one_item<R: Read, W: Write>(from: &mut R, to: &mut W, text: &mut [u8], place: &mut [u8]) -> bool
     requires { (length text.old ≡ 262144) × (length place.old ≡ 262208) }
 {
     let mut head = [0u8; 28];
-    let got = io::read_full(STDIN_FILENO, &mut head);
-    if got < 28 {
+    if !items::read(from, &mut head) {
         return false;
     }
     if items::at(&head, TEXT) == MADE {
-        return made();
+        return made(to);
     }
     let n = items::within(&head, TEXT, LONGEST);
     let entries = items::within(&head, PLACE, ENTRIES);
     let input = &mut text[..n];
-    if !items::read(input) {
+    if !items::read(from, input) {
         return false;
     }
-    lent(&head, input, &mut place[..entries])
+    lent(from, to, &head, input, &mut place[..entries])
 }
 
 // A proved loop has to end, and nothing says that the input does: the items are counted down from a number that no run uses up.
-fn all_items(text: &mut [u8], place: &mut [u8])
+fn all_items<R: Read, W: Write>(from: &mut R, to: &mut W, text: &mut [u8], place: &mut [u8])
     requires { (length text.old ≡ 262144) × (length place.old ≡ 262208) }
 {
     let mut left = u64::MAX;
-    while left > 0 && one_item(text, place) {
+    while left > 0 && one_item(from, to, text, place) {
         left -= 1;
     }
 }
 
-fn main() {
+fn main(rt: HostRuntime) {
     let mut text = text_space();
     let mut place = place_space();
-    all_items(&mut text, &mut place);
+    all_items(&mut rt.stdin(), &mut rt.stdout(), &mut text, &mut place);
 }

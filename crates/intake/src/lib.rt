@@ -1,9 +1,11 @@
-// Standard input, into a place: what the programs begin with.
+// What a reader gives, into a place: what the programs begin with, on standard input.
 // An inner crate: what its functions require, every caller proves.
-ghost use Rattle.std.specs.Prelude.{◌≡◌, ◌≤◌, length};
-ghost use Rattle.intake.specs.Steps.{counted};
+#![tactic(auto)]
 
-use libc::STDIN_FILENO;
+ghost use Rattle.std.specs.Prelude.{◌≡◌, ◌≤◌, length};
+ghost use Rattle.intake.specs.Steps.{counted, ReadOnce, ReadOn};
+
+use std::io::Read;
 
 // How many bytes were read, or that reading failed.
 #[derive(Clone, Copy)]
@@ -20,24 +22,24 @@ pub fn text_space() -> [u8; 8193]
 }
 
 // Reads once.
-fn read_more(part: &mut [u8]) -> Input
-    ensures { counted result ≤ length part.new }
+fn read_more<R: Read>(from: &mut R, part: &mut [u8]) -> Input
+    ensures within { counted result ≤ length part.new }
+    ensures bytes { ReadOnce result (R.remaining from.old) (R.remaining from.new) part.new }
 {
-    let got = libc::read(STDIN_FILENO, part);
-    if got < 0 {
-        return Input::Failed;
+    match from.read(part) {
+        Ok(n) => Input::Bytes(n),
+        Err(_) => Input::Failed,
     }
-    let n = io::count(got, part);
-    Input::Bytes(n)
 }
 
-// Fills the place from standard input, until it is full or the input ends.
-pub fn read_all(place: &mut [u8]) -> Input
-    ensures { counted result ≤ length place.new }
+// Fills the place from what is read, until it is full or the input ends.
+pub fn read_all<R: Read>(from: &mut R, place: &mut [u8]) -> Input
+    ensures within { counted result ≤ length place.new }
+    ensures bytes { ReadOn result (R.remaining from.old) (R.remaining from.new) place.new }
 {
     let mut at = 0;
     while at < place.len() {
-        let input = read_more(&mut place[at..]);
+        let input = read_more(from, &mut place[at..]);
         match input {
             Input::Bytes(n) => {
                 if n == 0 {

@@ -2,9 +2,12 @@
 // the lowest byte first; three of them, one after the other, say what the place holds: which byte fills it, and from which of its entries on, and before
 // which one, it holds other bytes, that are given one by one. Where a number is larger than what there is, all that there is is meant.
 // An inner crate: what its functions require, every caller proves.
-ghost use Rattle.std.specs.Prelude.{◌≤◌, ◌<◌};
+#![tactic(auto)]
 
-use libc::STDIN_FILENO;
+ghost use Rattle.std.specs.Prelude.{◌≤◌, ◌<◌, IsTrue};
+ghost use Rattle.std.specs.Io.KnownBytes.{Consumes};
+
+use std::io::Read;
 use words::number;
 
 // The number at a place of the head.
@@ -25,10 +28,11 @@ pub fn within(head: &[u8; 28], i: usize, most: usize) -> usize
     if n < most { n } else { most }
 }
 
-// Reads as many bytes as there are places for them; false where fewer are left.
-pub fn read(given: &mut [u8]) -> bool {
-    let n = given.len();
-    io::read_full(STDIN_FILENO, given) == n
+// Reads as many bytes as there are places for them, the next ones; false where fewer are left.
+pub fn read<R: Read>(from: &mut R, given: &mut [u8]) -> bool
+    ensures { IsTrue result → Consumes (R.remaining from.old) (R.remaining from.new) given.new }
+{
+    from.read_exact(given).is_ok()
 }
 
 fn fill(place: &mut [u8], byte: u8) {
@@ -40,11 +44,11 @@ fn fill(place: &mut [u8], byte: u8) {
 }
 
 // Makes the place hold what the three numbers from the first on say; false where the input ends within that.
-pub fn hold(head: &[u8; 28], first: usize, place: &mut [u8]) -> bool
+pub fn hold<R: Read>(from: &mut R, head: &[u8; 28], first: usize, place: &mut [u8]) -> bool
     requires { first < 5 }
 {
     fill(place, (at(head, first) % 256) as u8);
     let end = within(head, first + 2, place.len());
     let start = within(head, first + 1, end);
-    read(&mut place[start..end])
+    read(from, &mut place[start..end])
 }

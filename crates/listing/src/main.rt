@@ -1,26 +1,24 @@
 // The listing program: reads a sheet text from standard input and writes its listing, or the line of a refusal, to standard output.
+#![tactic(auto)]
+
 use intake::Input;
-use libc::{STDERR_FILENO, STDOUT_FILENO};
 
 // Writes the listing of a text, or the line of its refusal.
-fn respond(input: &[u8]) {
+fn respond(rt: &(impl Print + Eprint), input: &[u8]) {
     let mut place = reply::place();
     let n = reply::answer(input, &mut place);
-    if !io::write_all(STDOUT_FILENO, &place[..n]) {
-        io::write_all(
-            STDERR_FILENO,
-            b"listing: standard output cannot be written\n",
-        );
+    if rt.write_all(&place[..n]).is_err() {
+        let _ = rt.eprintln("listing: standard output cannot be written");
     }
 }
 
-fn main() {
+fn main(rt: HostRuntime) {
     let mut space = intake::text_space();
-    let input = intake::read_all(&mut space);
+    let input = intake::read_all(&mut rt.stdin(), &mut space);
     match input {
-        Input::Bytes(n) => respond(&space[..n]),
+        Input::Bytes(n) => respond(&rt, &space[..n]),
         Input::Failed => {
-            io::write_all(STDERR_FILENO, b"listing: standard input cannot be read\n");
+            let _ = rt.eprintln("listing: standard input cannot be read");
         }
     }
 }

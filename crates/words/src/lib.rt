@@ -1,6 +1,8 @@
 // Whole numbers as words of bytes, for the programs that the comparisons run. A negative number is coded by its top bit and the number of
 // steps that it lies below -1, so that every number of its type has one code and every code is a number.
 // An inner crate: what its functions require, every caller proves.
+#![tactic(auto)]
+
 ghost use Rattle.std.specs.Prelude.{◌+◌, ◌<◌, ◌≤◌, length};
 
 fn wide(byte: u8) -> u32
