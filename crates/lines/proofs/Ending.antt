@@ -13,7 +13,8 @@ use lib.Seq.{drop-drop, get_or-drop, get_or-set_same, get_or-set_other}
 use Rattle.page.specs.SheetLine.{fields, is_letter}
 use Rattle.lines.specs.declared.Parted.{Parted}
 use Rattle.lines.specs.Steps.{start_of, Stands, Parts}
-use Rattle.lines.proofs.Parting.{some_field, fields_after, Finds, next_field}
+use Rattle.lines.specs.Steps.{Finds}
+use Rattle.lines.proofs.Parting.{some_field, fields_after, next_field}
 
 -- count fields, of which the last ends at `at`, and the ends of the first four
 pub record Ending (line ends : List ℕ) (at count : ℕ) : Type 0 where

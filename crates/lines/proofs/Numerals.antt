@@ -198,7 +198,7 @@ module _ (negative : Bool) (f : List ℕ) (s : Bool) (r : ℕ) (p : Split f s r)
 
 -- ---- a number that fits 32 bits is that of its bits
 pub read32 : (z : ℤ) → mag z < 2 ^ 31 → to_z w32 (of_z w32 z) ≡ z
-read32 z h = to_z-of_z (record { sfits = h })
+read32 z h = to_z-of_z {w = w32} (record { sfits = h })
 
 pub sized : (z : ℤ) {r : ℕ} → r ≡ nat_abs (to_z w32 (of_z w32 z)) → mag z < 2 ^ 31 → r ≡ nat_abs z
 sized z e h = e ∙ ap nat_abs (read32 z h)

@@ -17,6 +17,10 @@ index_here : (c x : ℕ) (l : List ℕ) → eqb x c ≡ true → index_of c (x �
 unfolding index_of
 index_here c x l e = rw e
 
+index_end : (c : ℕ) → index_of c [] ≡ 0
+unfolding index_of
+index_end c = refl
+
 index_on : (c x : ℕ) (l : List ℕ) → eqb x c ≡ false → index_of c (x ∷ l) ≡ suc (index_of c l)
 unfolding index_of
 index_on c x l e = rw e
@@ -100,22 +104,20 @@ seeking_start h = record { begun = omega arith; inside = h; passed = refl }
 module _ {c : ℕ} {l : List ℕ} {from at : ℕ} (s : Seeking c l from at) where
   pub seeking_found : at < length l → get_or l at 0 ≡ c → Finds c l from at
   seeking_found h e =
-      let z : index_of c (drop at l) ≡ 0 = ap (index_of c) (drop-cons l at 0 h) ∙ index_here c (get_or l at 0) (drop (at + 1) l) (eq-eqb (get_or l at 0) c e) in
+      let z : index_of c (drop at l) ≡ 0 = ap (index_of c) (drop-cons l at 0 h) ∙ index_here c (get_or l at 0) (drop (suc at) l) (eq-eqb (get_or l at 0) c e) in
       let p = s.passed in let b = s.begun in record { at = omega arith; within = s.inside; after = omega arith }
 
   pub seeking_next : at < length l → (get_or l at 0 ≡ c → ⊥) → Seeking c l from (at + 1)
   seeking_next h n =
-      let z : index_of c (drop at l) ≡ suc (index_of c (drop (at + 1) l)) = ap (index_of c) (drop-cons l at 0 h) ∙ index_on c (get_or l at 0) (drop (at + 1) l) (ne_eqb (get_or l at 0) c n) in
+      let e : suc at ≡ at + 1 = omega arith in
+      let z : index_of c (drop at l) ≡ suc (index_of c (drop (at + 1) l)) =
+          ap (index_of c) (drop-cons l at 0 h) ∙ index_on c (get_or l at 0) (drop (suc at) l) (ne_eqb (get_or l at 0) c n) ∙ ap (λ m. suc (index_of c (drop m l))) e in
       let p = s.passed in let b = s.begun in record { begun = omega arith; inside = omega arith; passed = omega arith }
 
   pub seeking_end : length l ≤ at → Finds c l from at
   seeking_end h =
-      let z : index_of c (drop at l) ≡ 0 = ap (index_of c) (drop_of_length-le l {i = at} h) ∙ none in
+      let z : index_of c (drop at l) ≡ 0 = ap (index_of c) (drop_of_length-le l {i = at} h) ∙ index_end c in
       let p = s.passed in let b = s.begun in record { at = omega arith; within = s.inside; after = omega arith }
-    where
-      none : index_of c [] ≡ 0
-      unfolding index_of
-      none = refl
 
 -- ---- what a field and a line are, by where they end
 module _ (l : List ℕ) (from end : ℕ) where

@@ -15,7 +15,8 @@ use Rattle.page.specs.SheetText.{Text, bad_line, with_line, line_then}
 use Rattle.lines.specs.declared.Numbers as Read
 use Rattle.lines.specs.declared.Taken.{Taken}
 use Rattle.lines.specs.Steps.{line_of, unless_fault, LineRead, none_at, taken_as, closed_at, LineTaken}
-use Rattle.lines.proofs.Parting.{Finds, next_line}
+use Rattle.lines.specs.Steps.{Finds}
+use Rattle.lines.proofs.Parting.{next_line}
 
 -- it is missing
 pub taken_none : (text : List ℕ) (at letter n : ℕ) (signs : List Bool) → at ≡ length text → LineTaken text at letter n signs (none_at at)

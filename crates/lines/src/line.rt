@@ -4,6 +4,7 @@ ghost use Rattle.lines.specs.Steps.{fault_after, opening_by, LineRead, none_at, 
 
 use crate::digits::number;
 use crate::fields::{letter_alone, part};
+use crate::finding::find;
 use crate::{Number, Numbers, Taken};
 
 const LF: u8 = 10;

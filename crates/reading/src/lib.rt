@@ -1,4 +1,6 @@
 // Reading a sheet text: the whole sheet by value, or a refusal.
+#![tactic(auto)]
+
 mod opening;
 mod sheet;
 mod terms;
