@@ -1,0 +1,35 @@
+-- `sheet::gathered` meets its contract: row by row, each after the one before it.
+use mathlib.Core.Path.{◌≡◌}
+use Prim.Native.Nat.{◌+◌, ◌-◌, ◌<◌}
+use native.Mathlib.Omega.{arith}
+use lib.ListN.{length}
+use Rattle.reading.proofs.Gathering.{Gathering, gathering_start, gathering_room, gathering_next, gathering_end}
+use Rattle.reading.proofs.sheet.gathered.Goals as goal
+
+pub loop-i-init : goal.loop-i-init
+loop-i-init c = gathering_start
+
+pub put_row-requires : goal.put_row-requires
+put_row-requires c =
+    let room : let l = c.loop-i in (length l.coefficients ≡ 45) × (l.at + (c.args.d - l.i) < 45) = gathering_room c.requires.0 (omega arith) c.loop-i.invariant in
+    let r = room in (r.0, c.requires.1, omega arith, omega arith, r.1)
+
+pub overflow_add-at : goal.overflow_add-at
+overflow_add-at c = omega arith
+
+pub overflow_add-at-in-loop-i : goal.overflow_add-at-in-loop-i
+overflow_add-at-in-loop-i c =
+    let room : let l = c.loop-i in (length l.coefficients ≡ 45) × (l.at + (c.args.d - l.i) < 45) = gathering_room c.requires.0 (omega arith) c.loop-i.invariant in
+    let r = room in omega arith
+
+pub overflow_add-i : goal.overflow_add-i
+overflow_add-i c = omega arith
+
+pub loop-i-smaller : goal.loop-i-smaller
+loop-i-smaller c = omega arith
+
+pub loop-i-preserved : goal.loop-i-preserved
+loop-i-preserved c = gathering_next c.requires.0 (omega arith) c.put_row.ensures c.loop-i.invariant
+
+pub returns : goal.returns
+returns c = gathering_end (omega arith) c.loop-i.invariant

@@ -1,0 +1,11 @@
+use Prim.Native.Nat.{◌+◌, ◌-◌}
+use native.Mathlib.Omega.{arith}
+use mir.Facts.{to_z-of_z}
+use Rattle.reading.proofs.Gathering.{Putting, putting_start, putting_next, putting_end}
+use Rattle.reading.proofs.sheet.put_row.Given as goal
+
+abbrev pub invariant-loop-j : goal.invariant-loop-j
+invariant-loop-j l = Putting l.values l.i l.n l.at l.initial.coefficients l.coefficients l.j
+
+abbrev pub decreases-loop-j : goal.decreases-loop-j
+decreases-loop-j l = l.n + 1 - l.j
