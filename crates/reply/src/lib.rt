@@ -1,4 +1,6 @@
 // The listing of a sheet text, as text, and its picture: what the listing program and the program `picture` write for what they read.
+#![tactic(auto)]
+
 mod picture;
 
 ghost use Rattle.std.specs.Prelude.{◌≡◌, ◌≤◌, length};
