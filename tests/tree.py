@@ -4,6 +4,7 @@
   public where another file may bring it in. The must-fail edits that they name are there, and docs/PROMISES.md has a row for each.
 - Where a table of the first two has the columns 'statement' and 'theorem', the statement is closed, and the theorem is declared with
   just that statement as its type, brought in from the file of specs/. Every other statement of such a file has its row too.
+- A function that stands as a theorem in a table of these ensures something: the check proves that it does, or nothing is built.
 - docs/PAGE.md has in each row a sentence, a definition, and what stands behind it: files and must-fail edits that are there.
 - Every file of a crate that a document names stands in the tree, and docs/DESIGN.md names each file of src/, specs/ and proofs/, and
   each crate.
@@ -60,6 +61,8 @@ DECLARED = {
 KIT_PROOFS = re.compile(r"(?<![^\s(])Rattle\.std\.proofs\.(?=[A-Z]|lemmas\.[A-Z])")
 EDIT = r"`(\w+/must-fail/\w+)`"
 MENTIONED = r"`((?:crates|tests|docs|bench|sheets|\.ci)/[^`*{ ]+)`"
+# the columns of their tables with what is proved
+PROVED = re.compile(r"\b(?:theorem|kept by the code)\b")
 SENTENCES = ["sentence", "definition", "theorem, edit or test"]
 PLACES = re.compile(r"/(?:{0})/|(?:^|[^\w.*/-])/(?:{0})\b".format("|".join(("opt", "home", "root", "work", "tmp", "usr", "var", "mnt", "srv", "Users"))))
 
@@ -158,6 +161,18 @@ def sentences():
             path = at(name.strip("`")).resolve()
             if not (path.is_file() and path.is_relative_to(sources.ROOT)) and (path.exists() or not re.fullmatch(MENTIONED, name)):
                 yield f"docs/PAGE.md has {name} behind {cells[0]}, which is neither a file nor an edit"
+
+
+def ensured():
+    """A function that is cited as a theorem has a contract to keep."""
+    functions = {(named(module.file), name): one for root in faces.roots().values() if root for module in root.within() for name, one in module.named_functions()}
+    for page in CITING:
+        for columns, cells in tables(page):
+            cited = [found for column, cell in zip(columns, cells) if PROVED.search(column) for found in CITED.findall(cell)]
+            for file, name in [(file, name) for file, names in cited for name in re.findall(r"`([^`]+)`", names)]:
+                one = functions.get((file, name))
+                if one and "ensures" not in [word for word, _ in one.clauses]:
+                    yield f"docs/{page} has {name} of {file} as a theorem, which ensures nothing"
 
 
 # ---- statements
@@ -346,7 +361,7 @@ def places():
 
 
 RULES = (
-    citations, statements, edits, sentences, mentions, the_map, crate_rows, readable, disguises, axioms_and_holes, definitions_alone, law,
+    citations, statements, edits, sentences, ensured, mentions, the_map, crate_rows, readable, disguises, axioms_and_holes, definitions_alone, law,
     worldless, named_below, lengths, imports,
     faces.inner_crates, faces.shown_types, faces.contracts, faces.promises_told, faces.known_calls, faces.one_outcome, faces.wrong_answers, costs, places,
 )

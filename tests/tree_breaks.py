@@ -51,6 +51,13 @@ BREAKS = {
           for name in ("`no/such`", "`crates/page/proofs/`", "`docs/PAGE.md and/more`", "`/`", "`crates/../../.`")),
         ('docs/PAGE.md: the row "name" |  | `docs/DESIGN.md` has not sentence, definition, theorem, edit or test', (PAGE, '| "name" | | `docs/DESIGN.md` |\n')),
     ],
+    tree.ensured: [
+        (f"docs/PAGE.md has more of {NUMBERS} as a theorem, which ensures nothing", (PAGE, "`own_degree` |", f"`own_degree`; `{NUMBERS}` `half`, `more` |"),
+         (NUMBERS, "\npub fn more(n: u64) -> u64\n    requires { n ≤ 8 }\n{\n    n\n}\n")),
+        (f"docs/PROMISES.md has half of {NUMBERS} as a theorem, which ensures nothing",
+         (PROMISES, "\n| sentence | theorem |\n|---|---|\n| more | `crates/numbers/src/lib.rt` `half` |\n"),
+         (NUMBERS, "    ensures { result ≡ n / 2 }\n", ""), (NUMBERS, "◌≡◌, ◌/◌, ◌≤◌", "◌≤◌")),
+    ],
     tree.mentions: [
         ("docs/PAGE.md names tests/more.py, which is not in the tree", (PAGE, "`own_degree` |", "`own_degree`; `tests/more.py` |")),
         ("README.md names docs/MORE.md, which is not in the tree", ("README.md", "More is in `docs/MORE.md`.\n")),
