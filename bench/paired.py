@@ -1,8 +1,8 @@
 """Which declaration of an earlier tree is which of the present one, for bench/moved.
 
 Texts are compared word by word. What has the same text in another file has moved; what has it but for its own name, in the same file, was renamed. What
-stands in the files with the proof of a function is about that one, and follows it. A text is the same only where its names stand for the same: for a declaration that has the
-same place, or that moved or was renamed, and for what comes from elsewhere the module and the name there.
+stands in the files with the proof of a function is about that one, and follows it. A text is the same only where its names stand for the same: for a
+declaration that has the same place, or that moved or was renamed, and for what comes from elsewhere the module and the name there.
 """
 import collections
 import dataclasses

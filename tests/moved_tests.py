@@ -52,7 +52,8 @@ def cases():
         (LIB, "TwicePromise n result", "TwicePromise result n"), (INNER, "n ≤ room", "room ≤ n")
     ), {"contracts": "~2 =2", "lines": "+2 −2"}, ["- `call`, contracts of public calls: changed `twice`"]
 
-    yield "contracts by name", edited((INNER, "requires { n", "requires room { n"), (LIB, "requires { limit ≤ room }", "requires a { limit ≤ room }\n        requires b { limit ≤ 8 }")), {
+    yield "contracts by name", edited((INNER, "requires { n", "requires room { n"),
+                                      (LIB, "requires { limit ≤ room }", "requires a { limit ≤ room }\n        requires b { limit ≤ 8 }")), {
         "contracts": "~2 =2", "lines": "+3 −2"}, ["- `call`, contracts of public calls: changed `Answer::most`"]
     yield "what stands before an item, and before all", edited((LIB, "#[derive(Drop)]", "#[derive(Copy, Clone, Drop)]"), (MAIN, "auto", "none")), {
         "definitions": "~1 =10", "lines": "+2 −2"}, ["- `call`, definitions: changed `Answer`"]

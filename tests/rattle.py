@@ -47,7 +47,8 @@ class Module:
 
     def named_functions(self):
         """The functions of the module and of types that it has, each with its name there: that of its type stands before it."""
-        return [(item.name, item) for _, item in self.items if isinstance(item, Function)] + [(f"{path[-1]}::{item.name}", item) for path, _, item in self.methods]
+        own = [(item.name, item) for _, item in self.items if isinstance(item, Function)]
+        return own + [(f"{path[-1]}::{item.name}", item) for path, _, item in self.methods]
 
     def functions(self):
         return [item for _, item in self.named_functions()]

@@ -165,7 +165,8 @@ def sentences():
 
 def ensured():
     """A function that is cited as a theorem has a contract to keep."""
-    functions = {(named(module.file), name): one for root in faces.roots().values() if root for module in root.within() for name, one in module.named_functions()}
+    modules = [module for root in faces.roots().values() if root for module in root.within()]
+    functions = {(named(module.file), name): one for module in modules for name, one in module.named_functions()}
     for page in CITING:
         for columns, cells in tables(page):
             cited = [found for column, cell in zip(columns, cells) if PROVED.search(column) for found in CITED.findall(cell)]
