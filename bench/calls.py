@@ -10,15 +10,6 @@ import rattle
 import sources
 
 
-def function_names(module):
-    """The functions of a module's file, each with its name there: that of its type stands before it."""
-    for _, item in module.items:
-        if isinstance(item, rattle.Function):
-            yield item.name, item
-    for path, _, item in module.methods:
-        yield f"{path[-1]}::{item.name}", item
-
-
 class Code:
     """The code among some sources, which are paths and texts."""
 
@@ -45,7 +36,7 @@ class Code:
                 if not module.parent or module.file != module.parent.file:
                     path = module.file.relative_to(home).as_posix()
                     self.modules[path] = module
-                    names.update((id(item), (path, name)) for name, item in function_names(module))
+                    names.update((id(item), (path, name)) for name, item in module.named_functions())
             for shown, item in [call for _, (functions, *_) in faces.shown_by(self.faces) for call in functions]:
                 if id(item) in names:
                     self.shown[names[id(item)]].append(shown)

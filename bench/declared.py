@@ -19,8 +19,8 @@ sys.path.insert(0, str(pathlib.Path(__file__).resolve().parent.parent / "tests")
 from sources import KINDS, uses_in
 
 QUOTED = r'"(?:\\.|[^"\\])*"'
-# a word of an .antt file, or of a contract; a field keeps its dot, as in `S .k`. Code has words of its own
-WORD = re.compile(QUOTED + r"|(?:(?<![^\s(){},;])\.)?[^\s(){}.,;@\"«»]+|\S")
+# a word of an .antt file, or of a contract; a field keeps its dot, as in `S.k`. Code has words of its own
+WORD = re.compile(QUOTED + r"|\.?[^\s(){}.,;@\"«»]+|\S")
 CODE = re.compile(QUOTED + r"|\w+|::|\S")
 REMARKS = {
     ".antt": re.compile(rf"({QUOTED})|\{{-.*?-\}}|(?<![^\s(){{}}.,;])--[^\n]*", re.S),
@@ -28,7 +28,7 @@ REMARKS = {
 }
 BRINGS = re.compile(r"\s*(?:pub |ghost )*(?:use|mod) ")
 MARKS = "pub", "abbrev", "unfoldable", "axiom"
-CONTRACT = re.compile(r"^\s+(?:ghost|requires|ensures) \{.*?(?=^\{)", re.M | re.S)
+CONTRACT = re.compile(r"^\s+(?:ghost|requires|ensures)(?: \w+:?)? \{.*?(?=^\{)", re.M | re.S)
 TYPES = "struct", "enum", "const", "static", "type"
 OPENING, CLOSING = {"(", "{", "["}, {")", "}", "]"}
 # what is of Type 0 and no statement
@@ -83,9 +83,22 @@ class Declared:
         return {word for word in found if word[0].isalpha()} - CASES
 
 
+def words_of(text, modules=()):
+    """The words of a text in antt. By a module that is brought in, what stands after its dot is a name of that, and no field."""
+    found = []
+    for word in WORD.findall(text):
+        found += [".", word[1:]] if word[0] == "." and word[1:] and found and found[-1] in modules else [word]
+    return tuple(found)
+
+
+def modules_in(lines, suffix):
+    """The modules that a file brings in, by the names that it gives them."""
+    return {name for use in uses_in("\n".join(lines), suffix) for item, name in use.items if item is None}
+
+
 def parts(name):
-    """A name and its parts: `_when_` and `when`; of a function of a type the last."""
-    return {name, *filter(None, name.split("_")), name.split("::")[-1]}
+    """A name and its parts: `◌when◌` and `when`; of a function of a type the last."""
+    return {name, *filter(None, name.split("◌")), name.split("::")[-1]}
 
 
 def indent(line):
@@ -126,20 +139,20 @@ def members(item):
     """The cases that stand under `data`, the fields under `record`."""
     end = next((n for n, line in enumerate(item, 1) if line.rstrip().endswith("where")), len(item))
     for inner in items(item[end:]):
-        words = WORD.findall("\n".join(inner))
+        words = words_of("\n".join(inner))
         yield from (word for word in words[:outside(words, (":",))] if word not in MARKS)
 
 
-def blocks(lines, within=()):
+def blocks(lines, modules, within=()):
     """The declarations of an .antt file: the parts of each, which are `infix` lines, the type line and the rest; the type's lines; the modules around it."""
     before, found = [], []
     for item in items(lines):
-        words = tuple(WORD.findall("\n".join(item)))
+        words = words_of("\n".join(item), modules)
         if BRINGS.match(item[0]):
             continue
         if words[0] in ("module", "mutual"):
             end = next((n for n, line in enumerate(item, 1) if words[0] == "mutual" or line.rstrip().endswith("where")), len(item))
-            found += blocks(item[end:], (*within, tuple(WORD.findall("\n".join(item[:end])))))
+            found += blocks(item[end:], modules, (*within, words_of("\n".join(item[:end]), modules)))
         elif words[0].startswith("infix"):
             before.append(words)
         elif words[0] != "unfolding" and head_of(words):
@@ -169,7 +182,7 @@ def read_antt(path, lines):
     for use in uses_in("\n".join(lines), ".antt"):
         for name in [name for _, name in use.items if "pub" in use.marks]:
             yield Declared("proof" if "/proofs/" in path else "definition", path, name, (*use.marks, "use", name))
-    for block, item, within in blocks(lines):
+    for block, item, within in blocks(lines, modules_in(lines, ".antt")):
         first = next(words for words in block if not words[0].startswith("infix"))
         name, said = head_of(first)
         lefts = tuple(words[:outside(words, ("=",))] for words in block if words is not first and outside(words, ("=",)))
@@ -185,19 +198,20 @@ def type_of(head):
 
 def read_rt(path, lines, shown, within=()):
     """The declarations of code. The public calls are given, with their names from outside. Where the items are those of a type, it is given how that begins."""
-    before, owner = (), f"{type_of(within[0])}::" if within else ""
+    before, owner, modules = (), f"{type_of(within[0])}::" if within else "", modules_in(lines, ".rt")
     for item in items(lines):
         text = "\n".join(item)
         words = tuple(CODE.findall(text))
         if words[0] == "#":
-            before += words
+            # what is for the whole file is part of no item
+            before += words if words[1] != "!" else ()
             continue
         if BRINGS.match(text) and words[-1] == ";":
             continue
         head = words[:next((n for n, word in enumerate(words) if word in ("(", "{", "=", ";")), len(words))]
         if "fn" in head:
             name = owner + head[head.index("fn") + 1]
-            said = tuple(WORD.findall("".join(CONTRACT.findall(text))))
+            said = words_of("".join(CONTRACT.findall(text)), modules)
             plain = CONTRACT.sub("", text)
             face = ()
             if outside_names := sorted(shown.get((path, name), ())):
@@ -219,13 +233,12 @@ def read_rt(path, lines, shown, within=()):
 def module_of(path):
     """By which name the declarations of a file are brought in elsewhere. The types of a crate's code count as one file."""
     _, crate, *rest = path.rsplit(".", 1)[0].removesuffix("/Lib").split("/")
-    return ".".join([f"Rattle·{crate}", *rest]) if path.endswith(".antt") else f"Rattle·{crate}.specs.declared"
+    return ".".join([f"Rattle.{crate}", *rest]) if path.endswith(".antt") else f"Rattle.{crate}.specs.declared"
 
 
 def meaning(module, name):
     """What a name of a module stands for, or the module itself. A type of code has a module of its own, which holds the type and what belongs to it."""
-    module = re.sub(r"(Rattle·\w+)·\w+", r"\1", module)
-    if found := re.fullmatch(r"(Rattle·\w+\.specs\.declared)\.([^.]+)(.*)", module):
+    if found := re.fullmatch(r"(Rattle\.\w+\.specs\.declared)\.(?:[a-z]\w*\.)*([^.]+)(.*)", module):
         return found[1], found[2], f"{found[3]}.{name or ''}" if (found[2], "") != (name, found[3]) else ""
     return module, name or "", "" if name else "."
 
@@ -234,7 +247,7 @@ def known_in(path, lines, found):
     """The names that mean something in a file, and what those that are none of code stand for: those that it brings in, and its own, cases and fields too."""
     known, suffix = collections.defaultdict(set), pathlib.PurePath(path).suffix
     brought = [line for line in lines if BRINGS.match(line)]
-    names = {word for line in brought for word in WORD.findall(BRINGS.sub("", line.replace("::", " ")))}
+    names = {word for line in brought for word in words_of(BRINGS.sub("", line.replace("::", " ")).replace(".", " "))}
     names.update(re.findall(r"::(\w+)", "\n".join(lines)) if suffix == ".rt" else ())
     for part in [part for name in names for part in parts(name)]:
         known[part].update()

@@ -1,8 +1,8 @@
 """Which declaration of an earlier tree is which of the present one, for bench/moved.
 
 Texts are compared word by word. What has the same text in another file has moved; what has it but for its own name, in the same file, was renamed. What
-stands in a Proof.antt is about one function, and follows that. A text is the same only where its names stand for the same: for a declaration that has the
-same place, or that moved or was renamed, and for what comes from elsewhere the module and the name there.
+stands in the files with the proof of a function is about that one, and follows it. A text is the same only where its names stand for the same: for a
+declaration that has the same place, or that moved or was renamed, and for what comes from elsewhere the module and the name there.
 """
 import collections
 import dataclasses
@@ -10,6 +10,11 @@ import re
 
 from calls import Code, code_of
 from declared import module_of, read
+
+
+# the files with the proof of a function, which stand in a folder with its name
+FILES = "Invariants", "Answers", "Proof"
+PROOF = re.compile(rf"/proofs/.+/(?:{'|'.join(FILES)})\.antt$")
 
 
 def crate_of(path):
@@ -69,9 +74,9 @@ def renamed_crates(before, now):
 
 
 def renamed_files(before, now):
-    """Files go by what they declare, word by word; not so a Proof.antt, which has much in common with any other."""
+    """Files go by what they declare, word by word; not so those with the proof of a function, which have much in common with any other."""
     def declared(tree, other):
-        own = [one for one in tree.declared if one.path not in other.texts and not one.path.endswith("/Proof.antt")]
+        own = [one for one in tree.declared if one.path not in other.texts and not PROOF.search(one.path)]
         return grouped((one.path, (one.kind, one.name, one.words)) for one in own)
     return likest(declared(before, now), declared(now, before))
 
@@ -83,7 +88,7 @@ def path_under(crates, path):
 
 def text_under(crates, path, texts):
     """A source with the crates by their present names. In code a module that has a crate's name stands for itself."""
-    text = re.sub(r"(?<=Rattle·)\w+", lambda name: crates.get(name[0], name[0]), texts[path])
+    text = re.sub(r"(?<=\bRattle\.)\w+", lambda name: crates.get(name[0], name[0]), texts[path])
     if path.endswith(".rt"):
         others = {old: new for old, new in crates.items() if f"crates/{crate_of(path)}/src/{old}.rt" not in texts}
         text = re.sub(r"(?<![\w:])\w+(?=::)", lambda name: others.get(name[0], name[0]), text)
@@ -92,8 +97,8 @@ def text_under(crates, path, texts):
 
 # ---- declarations
 def name_pairs(a, b):
-    """The names of two declarations, and of operators the parts: `_when_` and `_if_`, `when` and `if`."""
-    sign = "_" if "_" in (a.name[0], a.name[-1]) else "::"
+    """The names of two declarations, and of operators the parts: `◌when◌` and `◌if◌`, `when` and `if`."""
+    sign = "◌" if "◌" in a.name else "::"
     return {(a.name, b.name), *zip(a.name.split(sign), b.name.split(sign))}
 
 
@@ -105,12 +110,15 @@ def standing(one):
     return [(module, name) for module in modules for name in (one.name, *one.members)]
 
 
-def proof_of(function):
-    return re.sub(r"(?:/lib|/main)?\.rt$", f"/{function.name}/Proof.antt", function.home.replace("/src/", "/proofs/", 1))
+def proofs_of(function):
+    """The files that may have the proof of a function. One that calls itself has a folder with a plus."""
+    *path, name = function.name.split("::")
+    home = re.sub(r"(?:/lib|/main)?\.rt$", "", function.home.replace("/src/", "/proofs/", 1))
+    return ["/".join((home, *path, folder, f"{file}.antt")) for folder in (name, f"+{name}") for file in FILES]
 
 
 def may_move(a, b):
-    return a.name == b.name and not any(one.path.endswith("/Proof.antt") for one in (a, b))
+    return a.name == b.name and not any(PROOF.search(one.path) for one in (a, b))
 
 
 # in which order partners are sought for what has none in its place: moved in its crate, moved to another one, renamed in its file
@@ -139,7 +147,8 @@ class Comparison:
         self.pair_contracts()
         self.names = {found for tree in (before, now) for one in tree.declared for found in standing(dataclasses.replace(one, members=()))}
         self.became = {pair for a, b in self.pairs for pair in zip(standing(a), standing(b))}
-        folders = [tuple(module_of(proof_of(one)).rpartition(".")[0] for one in pair) for pair in self.pairs if pair[0].kind == "function"]
+        both = [files for a, b in self.pairs if a.kind == "function" for files in zip(proofs_of(a), proofs_of(b))]
+        folders = [tuple(module_of(file).rpartition(".")[0] for file in files) for files in both]
         # modules, the earlier one and the present one: files that have another name, and what is made for each function beside its proof
         self.modules = {**{module_of(a): module_of(b) for a, b in self.files.items()}, **{old: new for old, new in folders if old != new}}
 
@@ -189,8 +198,7 @@ class Comparison:
     def proofs(self):
         """The files with the proof of a function that has another place now."""
         for a, b in self.pairs:
-            if a.kind == "function":
-                old, new = proof_of(a), proof_of(b)
+            for old, new in zip(proofs_of(a), proofs_of(b)) if a.kind == "function" else ():
                 if old in self.before.texts.keys() - self.now.texts.keys() and new in self.now.texts.keys() - self.before.texts.keys():
                     yield old, new
 

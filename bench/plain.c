@@ -5,9 +5,7 @@
    or a record: one recursion for rasters, which stands here, and one for listings, which stands in bench/plain.h with the rest. Forms are handed on by
    pointers, and those of the four parts are worked out before the first part is examined (bench/plain_forms.h, which has other ways to choose from).
    It reads and answers cases as crates/compare does, so that both can be fed one file and their answers compared byte for byte; it knows only calls 3
-   and 4. Nothing here is proved.
-
-   The proved program is for x86-64: where that is run under an emulator, a fair time asks that this file be compiled for x86-64, too. */
+   and 4. Nothing here is proved. */
 #include "plain.h"
 
 enum { CASE = 320, ANSWER = 40, ENTRIES = 16416 };

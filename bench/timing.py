@@ -5,7 +5,7 @@ import shutil
 import subprocess
 import sys
 
-from program import ROOT, command, settings
+from program import ROOT, command
 
 MADE = ROOT / "target" / "bench"
 # a function begins at a multiple of 64 bytes: else the time of a walk varies by a tenth and more with the functions that stand before it
@@ -15,14 +15,13 @@ RUNS = 15
 
 def built(name, *words):
     """The C program of that name. The compiler may be given further words, a level of optimisation among them: each choice is a program of its own."""
-    compiler = "gcc" if os.uname().machine == "x86_64" else "x86_64-linux-gnu-gcc"
-    if shutil.which(compiler) is None:
-        sys.exit(f"bench: there is no {compiler}, and the proved program is for x86-64")
+    if shutil.which("gcc") is None:
+        sys.exit("bench: there is no gcc")
     flags = [*([] if any(word.startswith("-O") for word in words) else [LEVEL]), *words, *FLAGS]
     MADE.mkdir(parents=True, exist_ok=True)
     program = MADE / "".join([name, *words])
-    subprocess.run([compiler, *flags, "-o", program, ROOT / "bench" / f"{name}.c"], check=True)
-    print(f"bench: {name}.c is built by {compiler} {' '.join(flags)}")
+    subprocess.run(["gcc", *flags, "-o", program, ROOT / "bench" / f"{name}.c"], check=True)
+    print(f"bench: {name}.c is built by gcc {' '.join(flags)}")
     return program
 
 
@@ -31,7 +30,7 @@ def built(name, *words):
 def run_once(program, cases):
     """The time of the processor that one run on the bytes of a file takes."""
     with cases.open("rb") as stdin:
-        started = subprocess.Popen(command(program), stdin=stdin, stdout=subprocess.DEVNULL, env=settings())
+        started = subprocess.Popen(command(program), stdin=stdin, stdout=subprocess.DEVNULL)
         _, status, used = os.wait4(started.pid, 0)
         started.returncode = os.waitstatus_to_exitcode(status)
     if started.returncode != 0:
@@ -55,25 +54,12 @@ def seconds(*jobs, runs=RUNS):
 
 def counts():
     """Whether instructions and stack can be counted: there is a valgrind for the programs."""
-    return os.uname().machine == "x86_64" and shutil.which("valgrind") is not None
-
-
-def logged(program, given):
-    """The instructions of a run under the kit's emulator, which writes a line for each; what the loader takes is among them."""
-    emulator, *words = command(program)
-    log = subprocess.Popen([emulator, "-one-insn-per-tb", "-d", "exec,nochain", "-D", "/dev/stderr", *words],
-                           stdin=subprocess.PIPE, stdout=subprocess.DEVNULL, stderr=subprocess.PIPE, env=settings())
-    with log.stdin as stdin:  # less than a pipe holds, so that nobody waits for anybody
-        stdin.write(given)
-    count = sum(block.count(b"\n") for block in iter(lambda: log.stderr.read(1 << 20), b""))
-    if log.wait() != 0:
-        sys.exit(f"bench: {program.name} ended with status {log.returncode} under the emulator")
-    return count
+    return shutil.which("valgrind") is not None
 
 
 def under_valgrind(program, given, *words):
     """What valgrind says of a run of the program on the bytes."""
-    run = subprocess.run(["valgrind", *words, *command(program)], input=given, stdout=subprocess.DEVNULL, stderr=subprocess.PIPE, env=settings())
+    run = subprocess.run(["valgrind", *words, *command(program)], input=given, stdout=subprocess.DEVNULL, stderr=subprocess.PIPE)
     if run.returncode != 0:
         sys.exit(f"bench: valgrind ended with status {run.returncode}: {run.stderr.decode(errors='replace')}")
     return run.stderr.decode(errors="replace")
@@ -81,8 +67,6 @@ def under_valgrind(program, given, *words):
 
 def instructions(program, given):
     """The instructions of a run."""
-    if os.uname().machine != "x86_64":
-        return logged(program, given)
     said = under_valgrind(program, given, "--tool=callgrind", "--callgrind-out-file=/dev/null")
     return int(re.search(r"Collected : (\d+)", said)[1])
 

@@ -3,7 +3,7 @@
     python3 tests/compare.py [--seed S] [--cases N]     N random cases and N/3 walks, beside the figures and the page's limits
     python3 tests/compare.py --case CASE                one case again, as a disagreement prints it
 
-The program target/bin/compare is run once, on all cases of tests/cases.py; crates/compare/src says how a case and an answer are written
+The program `compare` is run once, on all cases of tests/cases.py; crates/compare/src says how a case and an answer are written
 in bytes. A case says what a lent place holds beforehand. Every answer is compared with that of tests/second.py, with every entry of a lent
 place as it is afterwards; and the TALLIES there are counted by walking through the program's verdicts and bends. A run in which some refusal,
 verdict, degree or depth, some kind of place at some depth in some mode, some content of some kind of place, some kind of largest bend in some mode,
@@ -34,9 +34,9 @@ import weights
 from cases import CALLS, COUNT, ENTRIES, WALKS, all_cases, filled, walk_of
 from coverage import VERDICTS, tally
 from demands import bends_of, demand_3, largest_bend_fault, untold
-from program import BUILT, code, number, written_by
+from program import code, made, number, written_by
 
-PROGRAM = BUILT / "compare"
+PROGRAM = made("compare")
 NAMES = dict(enumerate(VERDICTS, 1))
 # how many numbers each call answers, beside a place
 LENGTHS = {"check": 3, "value": 2, "bounds": 5, "raster": 4, "listing": 5}

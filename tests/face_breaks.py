@@ -7,26 +7,26 @@ import faces
 LIB, PART, VERDICTS = "crates/probe/src/lib.rt", "crates/probe/src/refusals.rt", "crates/verdicts/src/lib.rt"
 NUMBERS, SPECS, PAGE = "crates/numbers/src/lib.rt", "crates/probe/specs/Promises.antt", "docs/PROMISES.md"
 # what the sources have
-SHEET = "sheet-of d (now (coefficients .entry)) x y s k"
-FILLED = "FillPromise mode (now (place .entry)) r (now (place .exit))"
-BROUGHT = "use Rattle·probe·specs.specs.Promises.{CheckPromise, FillPromise};\n"
+SHEET = "sheet_of d coefficients.now x y s k"
+FILLED = "FillPromise mode place.old result place.new"
+BROUGHT = "use Rattle.probe.specs.Promises.{CheckPromise, FillPromise};\n"
 TWICE = "OneCheck = (S : Sheet) (r t : Checked) → CheckPromise S r → CheckPromise S t → r ≡ t"
 PLACES = "→ (r ≡ t) × (now ≡ after)"
 PROMISE = "abbrev pub CheckPromise : Sheet → Checked → Type 0\n"
-CLAUSE, FILLS = "CheckPromise S r = r ≡ Refused (S .d)", "FillPromise mode old r now = (r ≡ mode) × (now ≡ old)"
+CLAUSE, FILLS = "CheckPromise S r = r ≡ Refused (S.d)", "FillPromise mode old r now = (r ≡ mode) × (now ≡ old)"
 TYPES, FUNCTIONS = "An inner crate: types, and no functions.", "An inner crate: what its functions require, every caller proves."
 # another promise in the place of the one there
 OTHER = (LIB, BROUGHT, BROUGHT.replace("Fill", "Other")), (LIB, "FillPromise mode", "OtherPromise mode")
 # rows of docs/PROMISES.md, and the head of a table there
 PROMISED = "| `check` | `crates/probe/specs/Promises.antt` `CheckPromise` |\n"
-ONE = "| `check` | `crates/probe/specs/Promises.antt` `OneCheck` | `crates/probe/proofs/Promises.antt` `one-check` |\n"
+ONE = "| `check` | `crates/probe/specs/Promises.antt` `OneCheck` | `crates/probe/proofs/Promises.antt` `one_check` |\n"
 SAID = "| sentence | statement | theorem |\n|---|---|---|\n"
 CLEARED = "| `probe/must-fail/place_cleared` | `fill`: the first entry cleared | the place afterwards |\n"
 TRIED = "| `probe/must-fail/another_number` | `check`: the depth for the degree | the number |\n"
-MORE = ("crates/probe/must-fail/more.edit", "refused: proofs/Promises.antt one-fill\nfile: src/lib.rt\nold: x\nnew: y\n")
+MORE = ("crates/probe/must-fail/more.edit", "refused: proofs/Promises.antt one_fill\nfile: src/lib.rt\nold: x\nnew: y\n")
 # a function that asks for something, and one of a type that does
-ASKING = "pub fn asking(n: u32) -> u32\n    requires { ⌜ FillPromise n ⌝ }\n{\n    n\n}\n"
-METHOD = "impl Checked {\n    pub fn asking(self) -> u32\n        requires { ⌜ FillPromise self ⌝ }\n    {\n        8\n    }\n}\n"
+ASKING = "pub fn asking(n: u32) -> u32\n    requires { FillPromise n }\n{\n    n\n}\n"
+METHOD = "impl Checked {\n    pub fn asking(self) -> u32\n        requires { FillPromise self }\n    {\n        8\n    }\n}\n"
 # faults that are told in several ways
 ASKS = "is a public call and has a `requires`"
 NO_PROMISE = f"probe::fill ensures what is no promise of {SPECS}"
@@ -39,11 +39,11 @@ PLACES_NOT_ONE = f"OneFill of {SPECS} does not say that FillPromise has one outc
 WAYS = [
     ("probe::asking", (LIB, ASKING)),
     ("probe::asking", (LIB, ASKING.replace("pub fn asking(n: u32)", "pub\nfn\nasking\n(\n    n: u32,\n)\n"))),
-    ("probe::asking", (LIB, "pub const fn asking(n: u32) requires { ⌜ FillPromise n ⌝ } {}\n")),
-    ("probe::asking", (LIB, "pub fn asking<'a>(n: &'a [u8]) -> u32 requires { ⌜ FillPromise n ⌝ } { 8 }\n")),
+    ("probe::asking", (LIB, "pub const fn asking(n: u32) requires { FillPromise n } {}\n")),
+    ("probe::asking", (LIB, "pub fn asking<'a>(n: &'a [u8]) -> u32 requires { FillPromise n } { 8 }\n")),
     # C may call it
-    ("probe::asking", (LIB, 'pub extern "C" fn asking(n: u32) requires { ⌜ FillPromise n ⌝ } {}\n')),
-    ("probe::asking", (PART, '#[no_mangle]\npub extern "C" fn asking(n: u32) requires { ⌜ n ≤ 8 ⌝ } {}\n')),
+    ("probe::asking", (LIB, 'pub extern "C" fn asking(n: u32) requires { FillPromise n } {}\n')),
+    ("probe::asking", (PART, '#[no_mangle]\npub extern "C" fn asking(n: u32) requires { n ≤ 8 } {}\n')),
     # a public module
     ("probe::refusals::first", (LIB, "mod refusals;", "pub mod refusals;")),
     ("probe::more::asking", (LIB, f"pub mod more {{\n{ASKING}}}\n")),
@@ -91,47 +91,47 @@ BREAKS = {
     faces.contracts: [
         *((f"{name} {ASKS}", *edits) for name, *edits in WAYS),
         ("probe::more is a public call and has not one `ensures`", (LIB, "pub fn more() {}\n")),
-        ("probe::fill is a public call and has not one `ensures`", (LIB, f"⌜ {FILLED} ⌝ }}", f"⌜ {FILLED} ⌝ }}\n    ensures {{ λ r. ⌜ r ⌝ }}")),
+        ("probe::fill is a public call and has not one `ensures`", (LIB, f"{{ {FILLED} }}", f"same {{ {FILLED} }}\n    ensures more {{ result }}")),
         ("probe::fill is a public call and has a `ghost`", (LIB, ") -> u32\n    ensures", ") -> u32\n    ghost { FillPromise }\n    ensures")),
-        (NO_PROMISE, (LIB, f"⌜ {FILLED} ⌝", f"⌜ {FILLED} × (r ≡ r) ⌝")),
-        (NO_PROMISE, (LIB, " r (now (place .exit))", " r (now (place .entry))")),
+        (NO_PROMISE, (LIB, f"{{ {FILLED} }}", f"{{ {FILLED} × (result ≡ result) }}")),
+        (NO_PROMISE, (LIB, "result place.new", "result place.old")),
         (NO_PROMISE, (LIB, "FillPromise mode", "FillPromise 8")),
         (NO_PROMISE, (LIB, "fn fill(\n    mode: u32,", "fn fill(\n    more: u32,\n    mode: u32,")),
-        (NO_PROMISE, (LIB, "fn fill(\n", "fn fill<'a>(\n"), (LIB, "&mut [u8]", "&'a mut [u8]"), (LIB, " r (now (place .exit))", " r")),
+        (NO_PROMISE, (LIB, "fn fill(\n", "fn fill<'a>(\n"), (LIB, "&mut [u8]", "&'a mut [u8]"), (LIB, "result place.new", "result")),
         (NO_PROMISE, (LIB, "FillPromise};", "OtherPromise as FillPromise};")),
-        (NO_PROMISE, (LIB, BROUGHT, BROUGHT.replace(", Fill", "};\nghost use Rattle·page.specs.Sheet.{Fill"))),
-        (NO_PROMISE, (LIB, "mod more {\n    ghost use Rattle·page.specs.Sheet.{FillPromise};\n}\n")),
+        (NO_PROMISE, (LIB, BROUGHT, BROUGHT.replace(", Fill", "};\nghost use Rattle.page.specs.Sheet.{Fill"))),
+        (NO_PROMISE, (LIB, "mod more {\n    ghost use Rattle.page.specs.Sheet.{FillPromise};\n}\n")),
         (NO_PROMISE, *OTHER),
         (NO_PROMISE, *OTHER, (SPECS, "\nabbrev OtherPromise : Sheet → Type 0\nOtherPromise S = Sheet\n")),
         (NO_PROMISE, *OTHER, (SPECS, "\nmodule _ where\n  abbrev pub OtherPromise : Sheet → Type 0\n  OtherPromise S = Sheet\n")),
-        (NO_PROMISE, *OTHER, (SPECS, "use Prim.Native.Nat.{ℕ}\n", "use Prim.Native.Nat.{ℕ}\npub use Rattle·page.specs.Facts.{OtherPromise}\n")),
+        (NO_PROMISE, *OTHER, (SPECS, "◌≡◌, List, ℕ}\n", "◌≡◌, List, ℕ}\npub use Rattle.page.specs.Facts.{OtherPromise}\n")),
         (ILL_SAID, (SPECS, PROMISE, PROMISE.replace("Sheet → Checked", "{T : Type 0} → Sheet → T"))),
         (ILL_SAID, (SPECS, PROMISE, PROMISE.replace("CheckPromise : Sheet → Checked", "CheckPromise {T : Type 0} : Sheet → T"))),
         (ILL_SAID, (SPECS, PROMISE, PROMISE.replace("Sheet → Checked", "(T : Type 0) → T → Checked"))),
         (ILL_SAID, (SPECS, PROMISE, PROMISE.replace("→ Checked", "→ {r : Checked}"))),
         (ILL_SAID, (SPECS, PROMISE, PROMISE.replace("CheckPromise", "CheckPromise OtherPromise"))),
         (ILL_SAID, (SPECS, CLAUSE, f"{CLAUSE}\n{CLAUSE}")),
-        (ILL_SAID, (SPECS, CLAUSE, "CheckPromise S (Refused r) = r ≡ S .d")),
-        (ILL_SAID, (SPECS, CLAUSE, "CheckPromise S = λ r. r ≡ Refused (S .d)")),
+        (ILL_SAID, (SPECS, CLAUSE, "CheckPromise S (Refused r) = r ≡ S.d")),
+        (ILL_SAID, (SPECS, CLAUSE, "CheckPromise S = λ r. r ≡ Refused (S.d)")),
         (ILL_SAID, (SPECS, CLAUSE, "CheckPromise r r = r ≡ Refused (r .d)")),
         (f"CheckPromise of {SPECS} says nothing of S", (SPECS, CLAUSE, "CheckPromise S r = r ≡ r"), (SPECS, "\nmore = Refused\n")),
         (f"FillPromise of {SPECS} says nothing of now", (SPECS, FILLS, "FillPromise mode old r now = (r ≡ mode) × (old ≡ old)")),
         *((f"CheckPromise of {SPECS} has a `{word}`, by which a name may mean something else", (SPECS, CLAUSE, clause)) for word, clause in (
-            ("where", "CheckPromise S r = same where\n  same = r ≡ Refused (S .d)"),
-            ("let", "CheckPromise S r = let r = Refused (S .d) in r ≡ Refused (S .d)"),
-            ("λ", "CheckPromise S r = (λ r. r ≡ r) (Refused (S .d))"),
+            ("where", "CheckPromise S r = same where\n  same = r ≡ Refused (S.d)"),
+            ("let", "CheckPromise S r = let r = Refused (S.d) in r ≡ Refused (S.d)"),
+            ("λ", "CheckPromise S r = (λ r. r ≡ r) (Refused (S.d))"),
         )),
         ("probe::check ensures CheckPromise of other things than it speaks of",
-         (SPECS, PROMISE, PROMISE.replace("Sheet →", "Sheet → Sheet →")), (SPECS, CLAUSE, "CheckPromise S T r = r ≡ Refused (S .d) (T .d)")),
+         (SPECS, PROMISE, PROMISE.replace("Sheet →", "Sheet → Sheet →")), (SPECS, CLAUSE, "CheckPromise S T r = r ≡ Refused (S.d) (T .d)")),
         (NO_PROMISE.replace("fill", "check"), (LIB, SHEET, SHEET.replace("x y", "y x"))),
         ("probe::check speaks of another sheet than that of crates/page/specs/Sheet.antt", (LIB, "page.specs.Sheet.{", "page.specs.Facts.{")),
-        *((f"probe::fill ensures something of an answer {name}, which hides what it is given",
-           (LIB, f"λ r. ⌜ {FILLED}", f"λ {name}. ⌜ {FILLED.replace(' r ', f' {name} ')}")) for name in ("mode", "now")),
-        ("probe::fill ensures something by a word of the operator FillPromise_", (LIB, "{sheet-of};", "{sheet-of, FillPromise_};")),
+        ("probe::fill is given a thing by the name of its answer, result",
+         (LIB, "    mode: u32,", "    result: u32,"), (LIB, "FillPromise mode", "FillPromise result"), (LIB, "refusals::first(mode)", "refusals::first(result)")),
+        ("probe::fill ensures something by a word of the operator FillPromise◌", (LIB, "{sheet_of};", "{sheet_of, FillPromise◌};")),
         ("probe::fill is given a reference within another type", (LIB, "place: &mut [u8]", "place: &mut [&mut [u8]; 8]")),
         ("probe::fill answers a reference", (LIB, ") -> u32\n    ensures", ") -> &mut [u8]\n    ensures")),
         ("probe::same ensures what is no promise of crates/numbers/specs/Promises.antt",
-         (LIB, "pub use numbers::same;\n"), (NUMBERS, "\npub fn same(n: u64) -> u64\n    ensures { λ r. ⌜ Same n r ⌝ }\n{\n    n\n}\n")),
+         (LIB, "pub use numbers::same;\n"), (NUMBERS, "\npub fn same(n: u64) -> u64\n    ensures { Same n result }\n{\n    n\n}\n")),
     ],
     faces.promises_told: [
         ("docs/PROMISES.md does not give CheckPromise as the promise of probe::check", (PAGE, "`CheckPromise`", "`FillPromise`")),
@@ -159,11 +159,12 @@ BREAKS = {
             TWICE.replace("(r t : Checked)", "(r t : Checked) (h : Sheet → Checked)"),
             TWICE + "\nOneCheck = CheckPromise",
         )),
-        (NOT_ONE.replace("OneCheck", "OneFill"), (PAGE, ONE, ONE.replace("OneCheck", "OneFill").replace("one-check", "one-fill")), (PAGE, SAID, SAID + ONE)),
+        (NOT_ONE.replace("OneCheck", "OneFill"), (PAGE, ONE, ONE.replace("OneCheck", "OneFill").replace("one_check", "one_fill")), (PAGE, SAID, SAID + ONE)),
         *((f"{SPECS} may mean something else by ≡ or ×", *edits) for edits in (
-            [(SPECS, "use mathlib.Core.Path.{_≡_}", "use mathlib.Core.Other.{_≡_}")],
-            [(SPECS, "use mathlib.Core.Path.{_≡_}\n", "use mathlib.Core.Path.{_≡_}\nuse mathlib.Core.Other.{_×_}\n")],
-            [(SPECS, "\nabbrev pub _×_ : Type 0 → Type 0 → Type 0\nA × B = A\n")],
+            [(SPECS, "Prelude.{◌≡◌, List, ℕ}", "Other.{◌≡◌, List, ℕ}")],
+            [(SPECS, "Prelude.{◌≡◌, List, ℕ}", "Prelude.{◌≢◌ as ◌≡◌, List, ℕ}")],
+            [(SPECS, "List, ℕ}\n", "List, ℕ}\nuse Rattle.std.specs.Other.{◌×◌}\n")],
+            [(SPECS, "\nabbrev pub ◌×◌ : Type 0 → Type 0 → Type 0\nA × B = A\n")],
         )),
         (PLACES_NOT_ONE, (SPECS, "(old : List ℕ)", "(mode : List ℕ)"), (SPECS, "→ FillPromise mode old r now", "→ FillPromise mode mode r now"),
          (SPECS, "→ FillPromise mode old t after", "→ FillPromise mode mode t after")),
@@ -187,9 +188,13 @@ BREAKS = {
          (LIB, "    refusals::first(mode)", "    check(mode)"), (PAGE, "`check`, `fill`: everything", "`check`: everything"),
          MORE, (PAGE, TRIED, TRIED.replace("`check`:", "`check`, `fill`:") + "| `probe/must-fail/more` | `fill`: more refused | the number |\n")),
         *((f"docs/PROMISES.md has `probe/must-fail/more` {STRANGE.replace('CALL', 'fill')}", *edits,
-           MORE, (MORE[0], "Promises.antt one-fill", f"refusals/{home}/Proof.antt returns"),
+           MORE, (MORE[0], "Promises.antt one_fill", f"refusals/{home}/Answers.antt returns"),
            (PAGE, TRIED, TRIED + "| `probe/must-fail/more` | `fill`: more refused | the number |\n"))
-          for home, *edits in (("last",), ("last", (LIB, "    refusals::first(mode)", "    let last = refusals::first(mode);\n    last")), ("+last+next",))),
+          for home, *edits in (("last",), ("last", (LIB, "    refusals::first(mode)", "    let last = refusals::first(mode);\n    last")), ("+last",),
+                               ("+lasting", (PART, "#[cycle(lasting)]\nfn last() {}\n")), ("+first", (PART, "pub fn first", "#[cycle(more)]\npub fn first")))),
+        (f"docs/PROMISES.md has `probe/must-fail/more` {STRANGE.replace('CALL', 'fill')}",
+         MORE, (MORE[0], "proofs/Promises.antt one_fill", "check returns"),
+         (PAGE, TRIED, TRIED + "| `probe/must-fail/more` | `fill`: more refused | the number |\n")),
     ],
     faces.shown_types: [
         ("probe::write_all is of no crate here", (LIB, "pub use io::write_all;\n")),
@@ -225,7 +230,12 @@ KEEPS = [
     ("a call in a module", (LIB, "// Fill a place.\npub fn fill(", "// Fill a place.\npub use more::fill;\nmod more {\npub fn fill("), (LIB, "}\n")),
     ("a call that is shown twice", (LIB, "pub mod more {\n    pub use super::fill;\n}\n")),
     ("a place that is lent for a time", (LIB, "fn fill(\n", "fn fill<'a>(\n"), (LIB, "&mut [u8]", "&'a mut [u8]")),
-    ("a wrong answer of a call that several functions refuse", MORE, (MORE[0], "Promises.antt one-fill", "refusals/+last+first/Proof.antt returns"),
+    ("a wrong answer that a call's inner function refuses", MORE, (MORE[0], "proofs/Promises.antt one_fill", "refusals::first returns"),
+     (PAGE, TRIED, TRIED + "| `probe/must-fail/more` | `fill`: more refused | the number |\n")),
+    ("a wrong answer that a function which calls itself refuses", MORE, (MORE[0], "Promises.antt one_fill", "refusals/+first/Invariants.antt loop"),
+     (PAGE, TRIED, TRIED + "| `probe/must-fail/more` | `fill`: more refused | the number |\n")),
+    ("a wrong answer of a call that several functions refuse", MORE, (MORE[0], "Promises.antt one_fill", "refusals/+lasting/Answers.antt returns"),
+     (PART, "pub fn first", "#[cycle(lasting)]\npub fn first"),
      (PAGE, TRIED, TRIED + "| `probe/must-fail/more` | `fill`: more refused | the number |\n")),
     ("a wrong answer in a definition", MORE,
      (PAGE, TRIED, TRIED + "| `probe/must-fail/more` | `fill`: more refused | the number |\n")),

@@ -17,7 +17,7 @@ import re
 
 import rattle
 from rattle import Unread
-from sources import NAME, at, blocks, brings, code_of, crates, named, names_in, signatures, specs_of, tables, text_of, uses
+from sources import NAME, WORDS, at, blocks, brings, code_of, crates, named, names_in, signatures, specs_of, tables, text_of, uses
 
 INNER = ("algebra", "forms", "numbers", "weight", "verdicts", "tables", "local", "page", "pbm", "cells", "marks", "lines", "writing", "header", "words", "items", "intake", "starred",
          "earlier", "returning")
@@ -25,8 +25,12 @@ INNER = ("algebra", "forms", "numbers", "weight", "verdicts", "tables", "local",
 FUNCTIONS = "An inner crate: what its functions require, every caller proves."
 TYPES = "An inner crate: types, and no functions."
 NOTHING = "No code"
+# a line of each crate's root file, by which the prover tries its tactics
+TACTIC = "#![tactic(auto)]"
 # what a sheet is given by
-SHEET = ("d", "(now (coefficients .entry))", "x", "y", "s", "k")
+SHEET = ("d", "coefficients.now", "x", "y", "s", "k")
+# an answer, in a clause
+ANSWER = "result"
 EDITED = ["edit", "what it would mean", "refused by"]
 WRONG = 2
 
@@ -88,7 +92,7 @@ def inner_crates():
         elif crate in INNER:
             comment = " ".join(line[2:].strip() for line in re.match(r"(?://.*\n?)*", text_of(root.file))[0].split("\n"))
             functions = [item for module in root.within() for item in module.functions()]
-            says = FUNCTIONS if functions else TYPES if "".join(code_of(root.file)).strip() else NOTHING
+            says = FUNCTIONS if functions else TYPES if "".join(code_of(root.file)).replace(TACTIC, "").strip() else NOTHING
             if says not in comment:
                 yield f"{named(root.file)} does not say '{says}'"
             for function in functions:
@@ -112,11 +116,11 @@ def shown_types():
 
 # ---- contracts
 
-def given(call, answer):
+def given(call):
     """What a promise speaks of: a call's sheet, the others that it is given, a lent place before, the answer, and the place after. The last are outcomes."""
     plain, lent = [], []
     for name, kind in call.function.given:
-        name = f"«{name}»" if "_" in name else name
+        name = f"«{name}»" if re.fullmatch(WORDS, name) else name
         if "&" in kind[1:]:
             raise Fault(f"{call.shown} is given a reference within another type")
         if kind[0] != "&":
@@ -124,10 +128,9 @@ def given(call, answer):
         elif "mut" in kind[1:3]:
             lent.append(name)
         else:
-            plain.append(f"(now ({name} .entry))")
-    said = "\n".join(plain).replace("\n".join(SHEET), f"(sheet-of {' '.join(SHEET)})").split("\n") if plain else []
-    before = [*said, *(f"(now ({name} .entry))" for name in lent)]
-    return before, [answer, *(f"(now ({name} .exit))" for name in lent)]
+            plain.append(f"{name}.now")
+    said = "\n".join(plain).replace("\n".join(SHEET), f"(sheet_of {' '.join(SHEET)})").split("\n") if plain else []
+    return [*said, *(f"{name}.old" for name in lent)], [ANSWER, *(f"{name}.new" for name in lent)]
 
 
 def types_of(file, name):
@@ -154,24 +157,23 @@ def promise_of(call):
     for word, _ in function.clauses:
         if word != "ensures":
             raise Fault(f"{call.shown} is a public call and has a `{word}`")
-    found = len(function.clauses) == 1 and re.fullmatch(r"λ (\w+)\. ⌜ (.*) ⌝", function.clauses[0][1])
-    if not found:
+    if len(function.clauses) != 1:
         raise Fault(f"{call.shown} is a public call and has not one `ensures`")
     if "&" in function.answer:
         raise Fault(f"{call.shown} answers a reference")
-    before, after = given(call, found[1])
-    if found[1] in [name for name, _ in function.given] + ["now"]:
-        raise Fault(f"{call.shown} ensures something of an answer {found[1]}, which hides what it is given")
+    if ANSWER in [name for name, _ in function.given]:
+        raise Fault(f"{call.shown} is given a thing by the name of its answer, {ANSWER}")
+    said, (before, after) = function.clauses[0][1], given(call)
     # the promise of all that is given, of the outcome, and of the place before and after: nothing beside it
-    promise = re.fullmatch(rf"(\w+) {re.escape(' '.join(before + after))}", found[2])
+    promise = re.fullmatch(rf"(\w+) {re.escape(' '.join(before + after))}", said)
     name, promises = promise and promise[1], at(f"crates/{call.crate}/specs/Promises.antt")
     declared = [one.name for one in signatures(promises) if not one.margin and "pub" in one.marks] if promises.is_file() else []
     if name not in declared or not brings(file, specs_of(call.crate, "Promises"), name):
         raise Fault(f"{call.shown} ensures what is no promise of crates/{call.crate}/specs/Promises.antt")
-    if "(sheet-of " in found[2] and not brings(file, specs_of("page", "Sheet"), "sheet-of"):
+    if "(sheet_of " in said and not brings(file, specs_of("page", "Sheet"), "sheet_of"):
         raise Fault(f"{call.shown} speaks of another sheet than that of crates/page/specs/Sheet.antt")
-    for operator in [brought for use in uses(file) for _, brought in use.items if "_" in brought]:
-        if set(operator.split("_")) & set(re.findall(NAME, function.clauses[0][1])):
+    for operator in [brought for use in uses(file) for _, brought in use.items if "◌" in brought]:
+        if set(operator.split("◌")) & set(re.findall(NAME, said)):
             raise Fault(f"{call.shown} ensures something by a word of the operator {operator}")
     types = types_of(promises, name)
     if len(types) != len(before + after):
@@ -247,7 +249,7 @@ def one_outcome():
             yield f"{cited[0]} of crates/{call.crate}/specs/Promises.antt does not say that {promise.name} has one outcome"
     for file in sorted({at(f"crates/{call.crate}/specs/Promises.antt") for call, _ in kept()}):
         others = [brought for use in uses(file) for _, brought in use.items] + [one.name for one in signatures(file)]
-        if not brings(file, ["mathlib.Core.Path"], "_≡_") or any("×" in name for name in others):
+        if not brings(file, "Rattle.std.specs.Prelude", "◌≡◌") or any("×" in name for name in others):
             yield f"{named(file)} may mean something else by ≡ or ×"
 
 
@@ -263,11 +265,15 @@ def reached(call, others):
     return found - {other.function.name for other in others if other.crate == call.crate} | {call.function.name}
 
 
-def refusing(edit):
-    """The functions whose proofs refuse an edit, by their names; none, where only other files do, and an edit of a definition may be of any call."""
+def refusing(edit, functions):
+    """The functions of a crate whose proofs refuse an edit, by their names; none, where only other files do, and an edit of a definition may be of any
+    call."""
     path = at(f"crates/{edit.strip('`')}.edit")
-    homes = re.findall(r"^refused: proofs/(?:\S+/)?([^\s/]+)/Proof\.antt\b", text_of(path), re.M) if path.is_file() else []
-    return {name for home in homes for name in home.split("+") if name}
+    said = re.findall(r"^refused: (\S+)", text_of(path), re.M) if path.is_file() else []
+    homes = [found[1] for one in said if (found := re.fullmatch(r"proofs/(?:\S+/)?([^\s/]+)/(?:Answers|Invariants|Proof)\.antt", one))]
+    names = {*homes, *(one.split("::")[-1] for one in said if "/" not in one)}
+    # the proofs of functions that call each other, or of one that calls itself, are in one folder
+    return names | {one.name for one in functions if f"+{one.cycle or one.name}" in homes}
 
 
 def wrong_answers():
@@ -284,8 +290,9 @@ def wrong_answers():
         if count < WRONG:
             yield f"docs/PROMISES.md has {count} wrong answers of {call.shown}, and not {WRONG}"
     known = {(call.crate, call.name): reached(call, right) for call in calls()}
+    functions = {crate: [one for module in root.within() for one in module.functions()] for crate, root in roots().items() if root}
     for edit, crate, name in tried:
         if (crate, name) not in known:
             yield f"docs/PROMISES.md has {edit} as a wrong answer of {name}, which {crate} does not show"
-        elif refusing(edit) and not refusing(edit) & known[crate, name]:
+        elif (refused := refusing(edit, functions[crate])) and not refused & known[crate, name]:
             yield f"docs/PROMISES.md has {edit} as a wrong answer of {name}, and no proof of what {name} comes to refuses it"

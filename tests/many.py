@@ -5,7 +5,7 @@
 
 The calls are check, value, bounds, raster, listing, read, and answer, which is the listing program's text; a text is a case of read and of answer.
 The cases are those of tests/many_cases.py, made in parts: which cases a part has follows from the seed and its name alone, and so does what their
-places hold. For each part target/bin/compare or target/bin/compare_texts is run once, and all that it answers is compared as in tests/compare.py and
+places hold. For each part the program `compare` or `compare_texts` is run once, and all that it answers is compared as in tests/compare.py and
 tests/texts.py: every number, every entry of every place that is lent to raster and listing, every byte of a listing, and up to 600 entries of its
 place after it and at the end. Every walk of the second program is held to what the page says of walks.
 
@@ -34,7 +34,7 @@ import texts
 import weights
 from demands import LARGEST_BENDS, kinds_of
 from many_cases import random_text, single_cases, walk_cases
-from program import BUILT
+from program import made
 
 CASES = 100_000
 REFUSALS = {**cases.REFUSALS, "read": texts.REFUSALS, "answer": texts.REFUSALS}
@@ -96,7 +96,7 @@ def compared_texts(found, made, rng):
     """The calls that are given a text."""
     told = [texts.second_told(case.text) for case in made]
     items = [texts.Item(case, both, text_places.any_place(rng, len(both[1]))) for case, both in zip(made, told)]
-    answers = texts.run(BUILT / "compare_texts", items)
+    answers = texts.run(made("compare_texts"), items)
     for item, (got, *left) in zip(items, answers):
         wanted, *expected = texts.second_answer(item)
         number, sheet = wanted[0], texts.described(item.case.text, wanted[0])

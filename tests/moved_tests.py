@@ -46,25 +46,31 @@ def cases():
     yield "changed by an infix line, a field, cases", edited(
         (SIZES, "infix 3", "infix 4"), (SIZES, "wide high", "wide tall"), (SIZES, "left right :", "right left :"), (LIB, "Nothing", "Nowhere")
     ), {"definitions": "~4 =7", "lines": "+4 −4"}, [
-        "- `page`, definitions: changed `Size`, `Side`, `_beside_`", "- `call`, definitions: changed `Answer`"]
+        "- `page`, definitions: changed `Size`, `Side`, `◌beside◌`", "- `call`, definitions: changed `Answer`"]
     yield "a body alone", edited((LIB, "inner::double(n)", "inner::double(n + 0)")), {"functions": "~1 =6", "lines": "+1 −1"}, NO_NAME
     yield "contracts alone", edited(
-        (LIB, "TwicePromise n r", "TwicePromise r n"), (INNER, "n ≤ room", "room ≤ n")
+        (LIB, "TwicePromise n result", "TwicePromise result n"), (INNER, "n ≤ room", "room ≤ n")
     ), {"contracts": "~2 =2", "lines": "+2 −2"}, ["- `call`, contracts of public calls: changed `twice`"]
+
+    yield "contracts by name", edited((INNER, "requires { n", "requires room { n"),
+                                      (LIB, "requires { limit ≤ room }", "requires a { limit ≤ room }\n        requires b { limit ≤ 8 }")), {
+        "contracts": "~2 =2", "lines": "+3 −2"}, ["- `call`, contracts of public calls: changed `Answer::most`"]
+    yield "what stands before an item, and before all", edited((LIB, "#[derive(Drop)]", "#[derive(Copy, Clone, Drop)]"), (MAIN, "auto", "none")), {
+        "definitions": "~1 =10", "lines": "+2 −2"}, ["- `call`, definitions: changed `Answer`"]
 
     yield "removed", edited((SIZES, AREA, ""), (PROOFS, "pub same : Same\nsame a b = refl\n", "")), {
         "definitions": "−1 =10", "proofs": "−1 =4", "lines": "+0 −5"}, ["- `page`, definitions: removed `area`"]
-    yield "contracts removed", edited((LIB, "    ensures { λ r. ⌜ TwicePromise n r ⌝ }\n", ""), (INNER, "    requires { ⌜ n ≤ room ⌝ }\n", "")), {
+    yield "contracts removed", edited((LIB, "    ensures { TwicePromise n result }\n", ""), (INNER, "    requires { n ≤ room }\n", "")), {
         "contracts": "~1 −1 =2", "lines": "+0 −2"}, ["- `call`, contracts of public calls: changed `twice`"]
 
     yield "moved", edited((SIZES, AREA, ""), (FACTS, "specs.Sizes.{area}", "specs.Area.{area}"), (PROOFS, "specs.Sizes", "specs.Area")) | {
-        "crates/page/specs/Area.antt": f"use Prim.Native.Nat.{{ℕ, zero, suc}}\n\n{AREA}"}, {
+        "crates/page/specs/Area.antt": f"use Rattle.std.specs.Prelude.{{ℕ, zero, suc}}\n\n{AREA}"}, {
         "definitions": "↔1 =10", "lines": "+6 −5"}, ["- `page`, definitions: moved `area`: page/specs/Sizes → page/specs/Area"]
     yield "moved to another crate", edited((SIZES, AREA, ""), (ROOM, "abbrev", f"{AREA}abbrev")), {
         "definitions": "↔1 =10", "lines": "+3 −3"}, ["- `call`, definitions: moved `area`: page/specs/Sizes → call/specs/Room"]
     yield "moved to where its names mean something else", edited(
         (SIZES, AREA, ""), (FACTS, "specs.Sizes.{area}", "specs.Area.{area}"), (PROOFS, "specs.Sizes", "specs.Area")
-    ) | {"crates/page/specs/Area.antt": f"use Prim.Native.Nat.{{ℕ, zero, id as suc}}\n\n{AREA}"}, {
+    ) | {"crates/page/specs/Area.antt": f"use Rattle.std.specs.Prelude.{{ℕ, zero, id as suc}}\n\n{AREA}"}, {
         "definitions": "~1 =10", "lines": "+6 −5"}, ["- `page`, definitions: changed `area`"]
     yield "a module's parameters", edited((PROOFS, "module _ (n : ℕ)", "module _ {n : ℕ}")), {
         "lines": "+1 −1"}, ["- 2 more stand in a module whose parameters changed: proofs 2"]
@@ -77,13 +83,13 @@ def cases():
         "- `page`, definitions: changed `Small`; renamed `area` → `surface`",
         "- 2 more differ only by a name that was renamed: statements `Same`; proofs 1"]
     yield "an operator renamed", exchanged(("beside", "by")), {
-        "definitions": "↔1 =10", "lines": "+3 −3"}, ["- `page`, definitions: renamed `_beside_` → `_by_`"]
+        "definitions": "↔1 =10", "lines": "+3 −3"}, ["- `page`, definitions: renamed `◌beside◌` → `◌by◌`"]
     yield "a function renamed, with its proof", exchanged(("double", "doubled")), {
-        "contracts": "↔1 =3", "proofs": "↔1 =4", "functions": "↔1 =6", "lines": "+5 −5"}, ["- 1 more differ only by a name that was renamed: functions 1"]
+        "contracts": "↔1 =3", "functions": "↔1 =6", "lines": "+4 −4"}, ["- 1 more differ only by a name that was renamed: functions 1"]
     yield "a function in place of another, with its proof", exchanged(("double", "triple"), ("2 * n", "3 * n")), {
-        "contracts": "+1 −1 =3", "proofs": "+2 −2 =3", "functions": "+1 ~1 −1 =5", "lines": "+8 −8"}, NO_NAME
-    yield "a crate renamed", exchanged(("/call/", "/answers/"), ("Rattle·call", "Rattle·answers"), ("call::t", "answers::t"), ("\ncall: ", "\nanswers: ")), {
-        "lines": "+8 −8"}, ["- `call` is now `answers`"]
+        "contracts": "+1 −1 =3", "proofs": "+2 −2 =3", "functions": "+1 ~1 −1 =5", "lines": "+9 −9"}, NO_NAME
+    yield "a crate renamed", exchanged(("/call/", "/answers/"), ("Rattle.call", "Rattle.answers"), ("call::t", "answers::t"), ("\ncall: ", "\nanswers: ")), {
+        "lines": "+9 −9"}, ["- `call` is now `answers`"]
     yield "a file renamed", exchanged(("specs/Facts", "specs/Sayings"), ("specs.Facts", "specs.Sayings")), {
         "lines": "+1 −1"}, ["- `page/specs/Facts` is now `page/specs/Sayings`"]
 
@@ -91,21 +97,25 @@ def cases():
         (SIZES, "(suc n) = suc (area n)", "(suc m) = suc (area m)"),
         (FACTS, "(a b : ℕ) → area (a + b) ≡ area (b + a)", "(b a : ℕ) → area (b + a) ≡ area (a + b)"),
     ), {"lines": "+2 −2"}, ["- 2 more differ only by the name of a variable: definitions `area`; statements `Same`"]
+    yield "another field", edited((SIZES, "high = a.high", "high = a.wide")), {
+        "definitions": "~1 =10", "lines": "+1 −1"}, ["- `page`, definitions: changed `◌beside◌`"]
+    yield "another name of a module", edited((PROMISES, "Answer.Number (n + n)", "Answer.Nothing (n + n)")), {
+        "statements": "~1 =1", "lines": "+1 −1"}, ["- `call`, promises: changed `TwicePromise`"]
     yield "one variable for another", edited((FACTS, "(b + a)", "(a + b)")), {
         "statements": "~1 =1", "lines": "+1 −1"}, ["- `page`, statements: changed `Same`"]
     yield "cases, which are no variables", edited(
-        (SIZES, "left left = 0\nfrom-left right", "left right = 0\nfrom-left left"), (SIZES, "yes = 1\nif-so no", "no = 1\nif-so yes")
-    ), {"definitions": "~2 =9", "lines": "+4 −4"}, ["- `page`, definitions: changed `from-left`, `if-so`"]
+        (SIZES, "left left = 0\nfrom_left right", "left right = 0\nfrom_left left"), (SIZES, "yes = 1\nif_so no", "no = 1\nif_so yes")
+    ), {"definitions": "~2 =9", "lines": "+4 −4"}, ["- `page`, definitions: changed `from_left`, `if_so`"]
 
     yield "a name from another file, to which nothing moved", edited((FACTS, "specs.Sizes.{area}", "specs.Others.{area}")), {
         "definitions": "~1 =10", "statements": "~1 =1", "lines": "+1 −1"}, [
         "- `page`, definitions: changed `Small`", "- `page`, statements: changed `Same`"]
-    yield "another name by the same word", edited((FACTS, "_≤_", "_<_ as _≤_"), (PROOFS, "refl}", "sym as refl}")), {
+    yield "another name by the same word", edited((FACTS, "◌≤◌", "◌<◌ as ◌≤◌"), (PROOFS, "refl}", "sym as refl}")), {
         "definitions": "~1 =10", "proofs": "~2 =3", "lines": "+2 −2"}, ["- `page`, definitions: changed `Small`"]
     yield "two names exchanged", edited((SIZES, "zero, suc,", "suc as zero, zero as suc,")), {
         "definitions": "~1 =10", "lines": "+1 −1"}, ["- `page`, definitions: changed `area`"]
     yield "a name brought in that meant something by itself", edited((SIZES, "-- a size", "use lib.Others.{Dec}\n")), {
-        "definitions": "~1 =10", "lines": "+1 −0"}, ["- `page`, definitions: changed `if-so`"]
+        "definitions": "~1 =10", "lines": "+1 −0"}, ["- `page`, definitions: changed `if_so`"]
     yield "something new by the name of a variable", edited((FACTS, "abbrev pub Small", "abbrev pub b : ℕ\nb = 1\n\nabbrev pub Small")), {
         "definitions": "+1 =11", "lines": "+2 −0"}, ["- `page`, definitions: added `b`"]
     yield "a promise by another's name", edited((LIB, "{TwicePromise}", "{OtherPromise as TwicePromise}")), {
@@ -115,18 +125,18 @@ def cases():
     ), {"definitions": "+1 =11", "contracts": "~1 =3", "functions": "~1 =6", "lines": "+4 −1"}, [
         "- `call`, definitions: added `Other`", "- `call`, contracts of public calls: changed `thrice`"]
 
-    yield "passed on by another's name", edited((FACTS, "{from-left}", "{area as from-left}")), {
-        "definitions": "~1 =10", "lines": "+1 −1"}, ["- `page`, definitions: changed `from-left`"]
-    yield "passed on, and no more", edited((FACTS, "pub use Rattle·page·specs.specs.Sizes.{from-left}", "pub use Rattle·page·specs.specs.Sizes.{if-so}")), {
-        "definitions": "+1 −1 =10", "lines": "+1 −1"}, ["- `page`, definitions: added `if-so`; removed `from-left`"]
-    yield "passed on, and renamed", exchanged(("from-left", "left-most")), {
+    yield "passed on by another's name", edited((FACTS, "{from_left}", "{area as from_left}")), {
+        "definitions": "~1 =10", "lines": "+1 −1"}, ["- `page`, definitions: changed `from_left`"]
+    yield "passed on, and no more", edited((FACTS, "pub use Rattle.page.specs.Sizes.{from_left}", "pub use Rattle.page.specs.Sizes.{if_so}")), {
+        "definitions": "+1 −1 =10", "lines": "+1 −1"}, ["- `page`, definitions: added `if_so`; removed `from_left`"]
+    yield "passed on, and renamed", exchanged(("from_left", "left_most")), {
         "definitions": "↔2 =9", "lines": "+6 −6"}, [
-        "- `page`, definitions: renamed `from-left` → `left-most`, `from-left` → `left-most`",
+        "- `page`, definitions: renamed `from_left` → `left_most`, `from_left` → `left_most`",
         "- 1 more differ only by a name that was renamed: definitions `room`"]
-    yield "taken from where it is passed on", edited((ROOM, "Sizes.{from-left, right}", "Sizes.{right}\nuse Rattle·page.specs.Facts.{from-left}")), {
+    yield "taken from where it is passed on", edited((ROOM, "Sizes.{from_left, right}", "Sizes.{right}\nuse Rattle.page.specs.Facts.{from_left}")), {
         "lines": "+2 −1"}, NO_NAME
 
-    yield "the contract of a call that a module shows", edited((SHOWN, "TwicePromise n r", "TwicePromise r n")), {
+    yield "the contract of a call that a module shows", edited((SHOWN, "TwicePromise n result", "TwicePromise result n")), {
         "contracts": "~1 =3", "lines": "+1 −1"}, ["- `call`, contracts of public calls: changed `thrice`"]
     yield "a call shown by another name", edited((LIB, "shown::thrice;", "shown::thrice as three;")), {
         "contracts": "~1 =3", "lines": "+1 −1"}, ["- `call`, contracts of public calls: changed `thrice`"]
@@ -147,8 +157,8 @@ HEAD = "| crate | definitions | statements | contracts | proofs | functions | li
 SIGNS = "`+` added, `~` changed, `−` removed, `↔` moved or renamed, `→` moved to another crate, `←` moved from another crate, `=` left alone"
 USAGE = "say `bench/moved [--brief] [--proofs] COMMIT`, with the commit that the tree is compared with"
 # a second commit, and the tree after it
-SECOND = edited((SIZES, "from-left right = 1", "from-left right = 2"), (INNER, "2 * n", "n + n"), (PROOF, "search needs", "refl"))
-THIRD = {**SECOND, "crates/page/specs/Wide.antt": "abbrev pub Wide : Type 0\nWide = ⊥\n", MAIN: "fn main() {}\n"}
+SECOND = edited((SIZES, "from_left right = 1", "from_left right = 2"), (INNER, "2 * n", "n + n"), (PROOF, "search rules", "refl"))
+THIRD = {**SECOND, "crates/page/specs/Wide.antt": "abbrev pub Wide : Type 0\nWide = ⊥\n", MAIN: "#![tactic(auto)]\n\nfn main() {}\n"}
 # what the script is asked then, and its answer: the status, the lines, and what it says besides
 ASKED = [
     (("HEAD~1",), 0, [
@@ -158,7 +168,7 @@ ASKED = [
         "| `program` | 0 | 0 | 0 | 0 | ~1 | +1 −4 |",
         "| all | ~1 =10 | +1 =2 | =4 | ~1 =4 | ~2 =5 | +6 −7 |",
         "", SIGNS, "", "left alone: no crate", "",
-        "- `page`, definitions: changed `from-left`",
+        "- `page`, definitions: changed `from_left`",
         "- `page`, statements: added `Wide`",
     ], ""),
     (("HEAD",), 0, [
@@ -173,7 +183,7 @@ ASKED = [
         *HEAD,
         "| all | ~1 =10 | +1 =2 | =4 | ~1 =4 | ~2 =5 | +6 −7 |",
         "",
-        "- `page`, definitions: changed `from-left`",
+        "- `page`, definitions: changed `from_left`",
         "- `page`, statements: added `Wide`",
         "- `call`, proofs: changed `returns`",
         "- `call`, functions: changed `double`",

@@ -1,8 +1,8 @@
 """The small tree on which tests/moved_tests.py tries bench/moved, and edits of it."""
 SIZES, FACTS, PROOFS = "crates/page/specs/Sizes.antt", "crates/page/specs/Facts.antt", "crates/page/proofs/Sizes.antt"
 PROMISES, ROOM, LIB = "crates/call/specs/Promises.antt", "crates/call/specs/Room.antt", "crates/call/src/lib.rt"
-INNER, SHOWN, PROOF = "crates/call/src/inner.rt", "crates/call/src/shown.rt", "crates/call/proofs/inner/double/Proof.antt"
-MAIN, OWN = "crates/program/src/main.rt", "crates/page/src/lib.rt"
+INNER, SHOWN, PROOF = "crates/call/src/inner.rt", "crates/call/src/shown.rt", "crates/call/proofs/inner/double/Answers.antt"
+INVARIANTS, MAIN, OWN = "crates/call/proofs/inner/double/Invariants.antt", "crates/program/src/main.rt", "crates/page/src/lib.rt"
 AREA = """\
 unfoldable pub area : ℕ → ℕ
 area zero = zero
@@ -13,7 +13,7 @@ BASE = {
     "crates.txt": "page:\ncall: page\nprogram: call\n",
     SIZES: f"""\
 -- Sizes of things.
-use Prim.Native.Nat.{{ℕ, zero, suc, _+_}}
+use Rattle.std.specs.Prelude.{{ℕ, zero, suc, ◌+◌}}
 
 -- a size
 pub record Size : Type 0 where
@@ -23,17 +23,17 @@ pub data Side : Type 0 where
   left right : Side
 
 -- one beside the other
-infix 3 _beside_
-abbrev pub _beside_ : Size → Size → Size
-a beside b = record {{ wide = a .wide + b .wide; high = a .high }}
+infix 3 ◌beside◌
+abbrev pub ◌beside◌ : Size → Size → Size
+a beside b = record {{ wide = a.wide + b.wide; high = a.high }}
 
-{AREA}abbrev pub from-left : Side → ℕ
-from-left left = 0
-from-left right = 1
+{AREA}abbrev pub from_left : Side → ℕ
+from_left left = 0
+from_left right = 1
 
-abbrev pub if-so : Dec → ℕ
-if-so yes = 1
-if-so no = 0
+abbrev pub if_so : Dec → ℕ
+if_so yes = 1
+if_so no = 0
 
 -- a kind of thing, and no statement
 abbrev pub Point : Type 0
@@ -41,10 +41,9 @@ Point = ℕ → ℕ
 """,
     FACTS: """\
 -- What is said of sizes.
-use mathlib.Core.Path.{_≡_}
-use Prim.Native.Nat.{ℕ, _+_, _≤_}
-use Rattle·page·specs.specs.Sizes.{area}
-pub use Rattle·page·specs.specs.Sizes.{from-left}
+use Rattle.std.specs.Prelude.{◌≡◌, ℕ, ◌+◌, ◌≤◌}
+use Rattle.page.specs.Sizes.{area}
+pub use Rattle.page.specs.Sizes.{from_left}
 
 abbrev pub Same : Type 0
 Same = (a b : ℕ) → area (a + b) ≡ area (b + a)
@@ -54,10 +53,10 @@ Small n = area n ≤ 8
 """,
     PROOFS: """\
 -- It is so.
-use mathlib.Core.Path.{_≡_, refl}
-use Prim.Native.Nat.{ℕ, _≤_}
-use Rattle·page·specs.specs.Sizes.{area}
-use Rattle·page·specs.specs.Facts.{Same, Small}
+use Rattle.std.specs.Prelude.{◌≡◌, ℕ, ◌≤◌}
+use mathlib.Core.Path.{refl}
+use Rattle.page.specs.Sizes.{area}
+use Rattle.page.specs.Facts.{Same, Small}
 
 module _ (n : ℕ) where
   kept : area n ≡ n
@@ -75,32 +74,34 @@ same a b = refl
 """,
     PROMISES: """\
 -- What is promised.
-use mathlib.Core.Path.{_≡_}
-use Prim.Native.Nat.{ℕ, _+_}
-use Rattle·call·specs.specs.declared.Answer.{Answer}
-use Rattle·call·specs.specs.declared.Answer.the-variants as Answer
+use Rattle.std.specs.Prelude.{◌≡◌, ℕ, ◌+◌}
+use Rattle.call.specs.declared.Answer.{Answer}
+use Rattle.call.specs.declared.Answer.TheVariants as Answer
 
 abbrev pub TwicePromise : ℕ → Answer → Type 0
 TwicePromise n r = r ≡ Answer.Number (n + n)
 """,
     ROOM: """\
-use Prim.Native.Nat.{ℕ, zero, suc}
-use Rattle·page.specs.Sizes.{from-left, right}
+use Rattle.std.specs.Prelude.{ℕ, zero, suc}
+use Rattle.page.specs.Sizes.{from_left, right}
 
 abbrev pub room : ℕ
-room = from-left right
+room = from_left right
 """,
     LIB: """\
 // The call.
+#![tactic(auto)]
+
 mod inner;
 mod shown;
 
 pub use shown::thrice;
-ghost use Prim.Native.Nat.{_≤_};
-ghost use Rattle·call·specs.specs.Promises.{TwicePromise};
-ghost use Rattle·call·specs.specs.Room.{room};
+ghost use Rattle.std.specs.Prelude.{◌≤◌};
+ghost use Rattle.call.specs.Promises.{TwicePromise};
+ghost use Rattle.call.specs.Room.{room};
 
 // An answer.
+#[derive(Drop)]
 pub enum Answer {
     Number(u32),
     Nothing,
@@ -109,7 +110,7 @@ pub enum Answer {
 impl Answer {
     // No more than is asked.
     pub fn most(self, limit: u32) -> u32
-        requires { ⌜ limit ≤ room ⌝ }
+        requires { limit ≤ room }
     {
         limit
     }
@@ -117,18 +118,18 @@ impl Answer {
 
 // Twice a number.
 pub fn twice(n: u32) -> Answer
-    ensures { λ r. ⌜ TwicePromise n r ⌝ }
+    ensures { TwicePromise n result }
 {
     Answer::Number(inner::double(n))
 }
 """,
     INNER: """\
 // What the call is made of.
-ghost use Prim.Native.Nat.{_≤_};
-ghost use Rattle·call·specs.specs.Room.{room};
+ghost use Rattle.std.specs.Prelude.{◌≤◌};
+ghost use Rattle.call.specs.Room.{room};
 
 pub fn double(n: u32) -> u32
-    requires { ⌜ n ≤ room ⌝ }
+    requires { n ≤ room }
 {
     2 * n // no more
 }
@@ -136,24 +137,29 @@ pub fn double(n: u32) -> u32
     SHOWN: """\
 // A call that stands apart.
 use crate::Answer;
-ghost use Rattle·call·specs.specs.Promises.{TwicePromise};
+ghost use Rattle.call.specs.Promises.{TwicePromise};
 
 pub fn thrice(n: u32) -> Answer
-    ensures { λ r. ⌜ TwicePromise n r ⌝ }
+    ensures { TwicePromise n result }
 {
     Answer::Number(n)
 }
 """,
     PROOF: """\
-use Rattle·call·proofs.proofs.inner.double.Tie as tie
+use Rattle.call.proofs.inner.double.Goals as goal
 
-returns : tie.Need-returns
-returns c = search needs
+pub returns : goal.returns
+returns c = search rules
+""",
+    INVARIANTS: """\
+use Rattle.call.proofs.inner.double.Goals as goal
 
-pub double-spec : statement
-double-spec = tie.close returns
+abbrev pub loop-n : goal.loop-n
+loop-n c = c.args.n ≤ 8
 """,
     MAIN: """\
+#![tactic(auto)]
+
 fn main() {
     let area = 3;
     call::twice(area);

@@ -2,7 +2,7 @@
 
     python3 tests/netpbm.py [--seed S] [--cases N]     N random pictures of each depth, beside some plain ones
 
-Pictures of every depth, written by target/bin/compare_pictures, are named by Netpbm's `pamfile`, made raw by `pamtopnm`, of which every pixel is
+Pictures of every depth, written by the program `compare_pictures`, are named by Netpbm's `pamfile`, made raw by `pamtopnm`, of which every pixel is
 compared with the raster, and enlarged and made a PNG and back by `pamenlarge`, `pnmtopng` and `pngtopam`, as for a printed page. Then `pbmmake` makes
 plain PBMs, and `pnmtoplainpnm` makes them of raw ones with random pixels: compare_pictures reads all of them, and the masks are compared, and other
 sizes, which it refuses by 13. At the end stands, for information, where the two differ on the examples of tests/second_pbm.py: Netpbm lets more through
@@ -23,7 +23,7 @@ sys.dont_write_bytecode = True  # nothing is left in the tree
 import second_pbm
 from pbm_cases import Case, Place, length_of, raster
 from pictures import run, shown
-from program import BUILT
+from program import made
 
 NEEDED = ("pamfile", "pamtopnm", "pamenlarge", "pnmtopng", "pngtopam", "pbmmake", "pnmtoplainpnm")
 RAW = re.compile(rb"P4\s(\d+) (\d+)\s")
@@ -146,7 +146,7 @@ def main():
     options = argparse.ArgumentParser(description="Has Netpbm read what is written, and reads what Netpbm writes.")
     options.add_argument("--seed", type=int, default=20250505)
     options.add_argument("--cases", type=int, default=10)
-    options.add_argument("--program", type=pathlib.Path, default=BUILT / "compare_pictures")
+    options.add_argument("--program", type=pathlib.Path, default=made("compare_pictures"))
     chosen = options.parse_args()
     missing = [name for name in NEEDED if shutil.which(name) is None]
     if missing:

@@ -5,7 +5,7 @@ mode 0 here (their MAA) the pixels plotted and the subdivisions. A sheet has at 
 cuts the whole square into 2 by 2 parts, and each part that it colours is a sheet of depth 7. A curve too heavy for that is cut into 4 by 4 parts, of
 depth 6. The pixels are the coloured cells of the parts; the subdivisions are the cells cut, in the coarse sheet and in the parts.
 
-Every sheet is answered by target/bin/listing. The second program walks the whole square in one piece, at depth 8 and, where need be, with degree 9,
+Every sheet is answered by the program `listing`. The second program walks the whole square in one piece, at depth 8 and, where need be, with degree 9,
 which no sheet has; all cells cleared and coloured must be the same. Every figure of the document must be what comes of it.
 
     python3 tests/paper.py                          compares
@@ -23,7 +23,7 @@ sys.dont_write_bytecode = True  # nothing is left in the tree
 import second
 import second_text
 import second_walk
-from program import BUILT, ROOT, written_by
+from program import ROOT, made, written_by
 from script import module
 
 PAGE = ROOT / "docs" / "TABLE-1.md"
@@ -149,7 +149,7 @@ def farther():
 
 def listed(sheet):
     """The mark of each cell that the program lists, under level, column and row; the cells cut; the coloured ones. Nothing where it refuses the sheet."""
-    *records, last = (line.split("\t") for line in written_by(BUILT / "listing", text_of(sheet)).decode("ascii").splitlines())
+    *records, last = (line.split("\t") for line in written_by(made("listing"), text_of(sheet)).decode("ascii").splitlines())
     if last[0] == "refused":
         return None
     _, visited, coloured = last
@@ -240,7 +240,7 @@ def picture():
     """What `./sheet` draws of one example."""
     example, k = SHOWN
     text = text_of(square(polynomial(example), k))
-    return module().shown("standard input", text, written_by(BUILT / "listing", text))
+    return module().shown("standard input", text, written_by(made("listing"), text))
 
 
 # ---- the comparison

@@ -3,7 +3,7 @@
     python3 tests/pictures.py [--seed S] [--cases N]     N random rasters and texts, beside those by turns; 40000 take half a minute
     python3 tests/pictures.py --only NUMBER              one case of that run again, by its number
 
-The program target/bin/compare_pictures is run once, on all cases of tests/pbm_cases.py, and on sheet texts for the call `depict`. A case begins with
+The program `compare_pictures` is run once, on all cases of tests/pbm_cases.py, and on sheet texts for the call `depict`. A case begins with
 seven numbers of four bytes: the call (0 write, 1 read, 2 depict; 3 has nothing but its numbers, and shows the place that is made for `depict`), the
 depth, how long the raster or the text is, how long the place is, a byte that fills it, and from which entry on, and before which, it holds other
 bytes; the input and these bytes follow. The answer is two words of eight bytes, the number and the answer, and all entries of the place; all is
@@ -13,7 +13,7 @@ was made, the second program is held to them.
 Then what the program wrote is given back to it: it must read every raster's mask, and no line may be longer than 70. A run fails, too, in which
 something that each must show never came up (tests/pbm_coverage.py), or whose cases do not tell some wrong rule from the right one (tests/pbm_rules.py).
 
-Then target/bin/picture itself is run: on the page's whole case, on input that comes in pieces, is empty, far too long, or cannot be read, with an
+Then the program `picture` itself is run: on the page's whole case, on input that comes in pieces, is empty, far too long, or cannot be read, with an
 output that cannot be written (tests/streams.py), on a text of each answer, and on those of sheets/. A run that cannot be tried, since the machine lacks
 a device, is a fault, unless --without-devices is said (tests/devices.py).
 """
@@ -33,7 +33,7 @@ import sheets
 import streams
 import text_cases
 from pbm_cases import CONTENTS, KINDS, MADE, Case, all_cases, handed, held, lent
-from program import BUILT, ended, written_by
+from program import absent, ended, made, written_by
 from second_text import LONGEST, WHOLE
 
 SHOWN = 5
@@ -166,8 +166,8 @@ def arguments():
     options.add_argument("--seed", type=int, default=20250404)
     options.add_argument("--cases", type=int, default=4000)
     options.add_argument("--only", type=int)
-    options.add_argument("--program", type=pathlib.Path, default=BUILT / "compare_pictures")
-    options.add_argument("--picture", type=pathlib.Path, default=BUILT / "picture")
+    options.add_argument("--program", type=pathlib.Path, default=made("compare_pictures"))
+    options.add_argument("--picture", type=pathlib.Path, default=made("picture"))
     devices.add_option(options)
     return options.parse_args()
 
@@ -186,7 +186,7 @@ def main():
         if written_by(chosen.program, MADE) != bytes(second_pbm.ROOM):
             faults.append(f"the place that is made for `depict` is other than {second_pbm.ROOM} zeros")
         if not chosen.picture.is_file():
-            sys.exit(f"pictures: {chosen.picture} is not there: `rt check` proves and builds it")
+            sys.exit(f"pictures: {absent(chosen.picture)}")
         runs = list(picture_runs(chosen.picture, cases))
     untried = devices.left_out(runs, chosen)
     failed = [(name, fault) for name, fault in runs if fault and (name, fault) not in untried]

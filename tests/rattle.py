@@ -9,13 +9,18 @@ import re
 from sources import at, text_of
 
 TOKEN = re.compile(r"""(?P<blank>\s+|//[^\n]*)|(?P<text>b?"(?:\\.|[^"\\])*"|b'(?:\\.|[^'\\])+')|(?P<word>'?\w+)|(?P<sign>::|->|\S)""")
-# the words before the braces of a clause, in which antt stands
+# the words before the braces of a clause, in which antt stands, and what may come between: the name of the clause, or of what is ghost
 CLAUSES = ("requires", "ensures", "ghost")
+NAMED = re.compile(r"\s*(?:\w+\s*[:=]?\s*)?\{")
 # the words that begin a path within the crate
 WITHIN = ("crate", "self", "super")
 
-# a function: its module, name and line, each thing that it is given with its type, its answer's type, its clauses, whether C may call it, what it calls
-Function = collections.namedtuple("Function", "module name line given answer clauses exported called")
+# what may be derived: its contracts are those of std. Anything else that has an attribute is not understood
+DERIVED = ("Drop", "Clone", "Copy", "PartialEq", "Eq", "Debug")
+
+# a function: its module, name and line, each thing that it is given with its type, its answer's type, its clauses, whether C may call it, what it calls, and
+# the name of the cycle that it is in, if it is in one
+Function = collections.namedtuple("Function", "module name line given answer clauses exported called cycle")
 # a struct or an enum, with the tokens that say what it holds
 Type = collections.namedtuple("Type", "module name line tokens")
 # a const, or another name for a type, with the tokens that say what it is
@@ -40,9 +45,13 @@ class Module:
     def root(self):
         return self.parent.root() if self.parent else self
 
+    def named_functions(self):
+        """The functions of the module and of types that it has, each with its name there: that of its type stands before it."""
+        own = [(item.name, item) for _, item in self.items if isinstance(item, Function)]
+        return own + [(f"{path[-1]}::{item.name}", item) for path, _, item in self.methods]
+
     def functions(self):
-        """Those of the module, and those of types that it has."""
-        return [item for _, item in self.items if isinstance(item, Function)] + [item for *_, item in self.methods]
+        return [item for _, item in self.named_functions()]
 
     def within(self):
         """The module and all below it."""
@@ -59,7 +68,7 @@ def tokens(text):
     while place < len(text):
         token = TOKEN.match(text, place)
         word, end = token[0], token.end()
-        opened = re.compile(r"\s*\{").match(text, end) if word in CLAUSES else None
+        opened = NAMED.match(text, end) if word in CLAUSES else None
         if opened:
             depth, end = 1, opened.end()
             while depth and end < len(text):
@@ -80,6 +89,11 @@ def tokens(text):
         line += text.count("\n", place, end)
         place = end
     return tuple(found)
+
+
+def clauses(text):
+    """What stands in the braces of clauses, each with the line on which its clause begins."""
+    return [(line, token[1]) for line, token in tokens(text) if isinstance(token, tuple)]
 
 
 class Reader:
@@ -118,8 +132,28 @@ class Reader:
 
     def items(self, module, end=None):
         while self.tokens[self.place][1] != end:
-            exported = self.meets("#", "[", "no_mangle", "]")
-            self.item(module, self.public(), exported)
+            marks = self.attributes()
+            # those of a whole file may stand alone in it
+            if self.tokens[self.place][1] != end:
+                self.item(module, self.public(), marks)
+
+    def attributes(self):
+        """Passes over the attributes before an item, or at the head of a file: whether C may call it, and the name of its cycle."""
+        exported, cycle = False, None
+        while self.tokens[self.place][1] == "#":
+            line = self.line()
+            self.next()
+            whole = self.meets("!")
+            self.next("[")
+            said = self.until("]")
+            head, inner = said[:1], [word for word in said[2:-1] if word != ","]
+            if said in (["no_mangle"], ["unsafe", "(", "no_mangle", ")"]) and not whole:
+                exported = True
+            elif head == ["cycle"] and len(inner) == 1 and not whole:
+                cycle = inner[0]
+            elif head != ["tactic"] and (head != ["derive"] or whole or not set(inner) <= set(DERIVED)):
+                raise Unread(line, "`#` where an item should begin")
+        return exported, cycle
 
     def public(self):
         """Passes over `pub`, and says whether it stands there, for everybody."""
@@ -129,7 +163,7 @@ class Reader:
             return False
         return shown
 
-    def item(self, module, public, exported):
+    def item(self, module, public, marks):
         line, word = self.line(), self.next()
         if word == "extern":
             self.next('"C"')
@@ -137,11 +171,11 @@ class Reader:
                 self.until("}")
                 module.foreign.append(line)
                 return
-            exported, word = True, self.next("fn")
+            marks, word = (True, marks[1]), self.next("fn")
         if word == "const" and self.meets("fn"):
             word = "fn"
         if word == "fn":
-            module.items.append((public, self.function(module, line, exported)))
+            module.items.append((public, self.function(module, line, *marks)))
         elif word == "mod":
             self.module(module, public, line)
         elif word == "use":
@@ -209,13 +243,13 @@ class Reader:
         if "for" in path:
             raise Unread(line, "a block for something else than a type")
         while not self.meets("}"):
-            exported, public = self.meets("#", "[", "no_mangle", "]"), self.public()
+            (exported, cycle), public = self.attributes(), self.public()
             self.meets("const")
             line, exported = self.line(), self.meets("extern", '"C"') or exported
             self.next("fn")
-            module.methods.append((path, public, self.function(module, line, exported)))
+            module.methods.append((path, public, self.function(module, line, exported, cycle)))
 
-    def function(self, module, line, exported):
+    def function(self, module, line, exported, cycle):
         name = self.next()
         if self.meets("<"):
             self.until(">")
@@ -230,14 +264,17 @@ class Reader:
             given.append((named[0], one[one.index(":") + 1:] if ":" in one else one))
         answer, clauses = [], []
         if self.meets("->"):
-            while self.tokens[self.place][1] != "{" and not isinstance(self.tokens[self.place][1], tuple):
+            while self.tokens[self.place][1] not in ("{", "where") and not isinstance(self.tokens[self.place][1], tuple):
                 answer.append(self.next())
+        if self.meets("where"):
+            while self.tokens[self.place][1] != "{" and not isinstance(self.tokens[self.place][1], tuple):
+                self.next()
         while isinstance(self.tokens[self.place][1], tuple):
             clauses.append(self.next())
         self.next("{")
         body = self.until("}")
         called = {word for word, after in zip(body, body[1:]) if after == "(" and re.fullmatch(r"\w+", str(word))}
-        return Function(module, name, line, given, answer, clauses, exported, called)
+        return Function(module, name, line, given, answer, clauses, exported, called, cycle)
 
 
 def depths(tokens):

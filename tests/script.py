@@ -27,7 +27,7 @@ import script_pictures
 import script_words
 import second
 import sheets
-from program import BUILT, ROOT
+from program import ROOT, absent, made
 from second_text import START, WHOLE, WHOLE_LISTING, written
 
 SCRIPT = ROOT / "sheet"
@@ -167,21 +167,23 @@ def unwritten_checks():
 
 # the words for each program, what is then written for the whole case, and the other program
 PROGRAMS = {"listing": (["-"], PICTURE.encode(), "picture"), "picture": (["--pbm", "-"], script_pictures.WHOLE_PICTURE, "listing")}
-# as rt does, it builds nothing where its stamp stands
+# as rt does, it is told in the crate's folder, builds nothing where the program stands, and runs it where it is proved
 STAND_IN = """#!/bin/sh
-echo "$@" >> calls
-[ -f target/stamp/"$2" ] || cp "$BUILT"/"$2" target/bin/"$2"
-[ "$ENDS" = 0 ] && touch target/stamp/"$2"
+echo "$@" >> ../../calls
+mkdir -p out
+[ -f out/"$2" ] || cp "$CRATES"/"$2"/out/"$2" out/"$2"
+[ "$ENDS" != 0 ] || out/"$2" | sed "$CHANGE"
 exit "$ENDS"
 """
 
 
 def small_tree(tree):
     """What the script needs, in a tree of its own, with a stand-in for rt that ends as it is told and notes that it ran."""
-    for place in ("crates/listing/src", "tests", "target/bin", "target/stamp", "rt"):
+    for place in ("crates/listing/src", "crates/picture/src", "tests", "rt"):
         (tree / place).mkdir(parents=True)
     modules = ("fault_words", "in_words", "line_forms", "number_words", "program", "slip_words", "too_heavy", "whole_file")
-    for name in ("sheet", *(f"tests/{module}.py" for module in modules), "crates.txt", "crates/listing/src/main.rt"):
+    crates = [f"crates/{crate}/{file}" for crate in PROGRAMS for file in ("src/main.rt", "stdin", "stdout")]
+    for name in ("sheet", *(f"tests/{module}.py" for module in modules), "crates.txt", *crates):
         shutil.copy(ROOT / name, tree / name)
     (tree / "rt" / "rt").write_text(STAND_IN)
     (tree / "rt" / "rt").chmod(0o755)
@@ -189,18 +191,18 @@ def small_tree(tree):
 
 def build_checks(name):
     """When a program is proved and built: in a tree of its own."""
-    home = os.environ.get("RATTLE_HOME") or pathlib.Path(shutil.which("rt")).resolve().parent.parent
     words, expected, other = PROGRAMS[name]
     with tempfile.TemporaryDirectory() as folder:
         tree = pathlib.Path(folder)
         small_tree(tree)
-        sources, target, program = tree / "crates" / "listing" / "src", tree / "target", tree / "target" / "bin" / name
+        sources, out = tree / "crates" / "listing" / "src", tree / "crates" / name / "out"
+        program = out / name
 
-        def turn(ends=0):
+        def turn(ends=0, change=""):
             """The status, whether the sheet came, what was said, and what rt was asked for."""
             (tree / "calls").write_text("")
-            env = {**os.environ, "PATH": f"{tree / 'rt'}{os.pathsep}{os.environ['PATH']}", "RATTLE_HOME": str(home), "ENDS": str(ends),
-                   "BUILT": str(BUILT)}
+            env = {**os.environ, "PATH": f"{tree / 'rt'}{os.pathsep}{os.environ['PATH']}", "ENDS": str(ends), "CHANGE": change,
+                   "CRATES": str(ROOT / "crates")}
             ended = subprocess.run([tree / "sheet", *words], input=WHOLE, capture_output=True, env=env)
             return ended.returncode, ended.stdout == expected, ended.stderr.decode(), (tree / "calls").read_text()
 
@@ -210,10 +212,11 @@ def build_checks(name):
             os.utime(path, ns=(late, late))
 
         first = (f"sheet: the program `{name}` is not built yet. It is proved and built now, once, which takes some minutes. "
-                 "target/sheet.log shows how far it is.\n")
+                 f"crates/{name}/out/sheet.log shows how far it is.\n")
         again = f"sheet: the program `{name}` may be older than its sources. What changed is proved and built again.\n"
-        failed = f"sheet: `rt check {name}` ended with status 1, so no program is kept; target/sheet.log has what rt said\n"
-        once = f"check {name}\n"
+        kept = f"so no program is kept; crates/{name}/out/sheet.log has what rt said\n"
+        failed, odd = f"sheet: `rt run {name}` ended with status 1, {kept}", f"sheet: `rt run {name}` did not write what its crate wants, {kept}"
+        once = f"run {name}\n"
         yield f"{name}: the first time it is built", turn() == (0, True, first, once)
         yield f"{name}: the second time it is not", turn() == (0, True, "", "")
         for path in (sources / "main.rt", sources, tree / "crates.txt"):
@@ -224,12 +227,14 @@ def build_checks(name):
         yield f"{name}: a build that fails", turn(1) == (2, False, again + failed, once) and not program.exists()
         yield f"{name}: a build that failed is not used", turn(1) == (2, False, first + failed, once) and not program.exists()
         yield f"{name}: a build that failed is mended", turn() == (0, True, first, once)
-        (target / "stamp" / name).unlink()
-        yield f"{name}: a program that rt did not pass", turn(1) == (2, False, again + failed, once)
+        (out / "stdout").unlink()
+        yield f"{name}: a program that was not tried", turn(1) == (2, False, again + failed, once)
+        yield f"{name}: a program that writes something else", turn(change="s/1/2/") == (2, False, first + odd, once) and not program.exists()
+        yield f"{name}: one that wrote something else is not used", turn(1) == (2, False, first + failed, once) and not program.exists()
         yield f"{name}: a program that rt passes at last", turn() == (0, True, first, once)
         program.unlink()
         yield f"{name}: a program that was taken away", turn() == (0, True, first, once)
-        yield f"{name}: it alone is built", not (target / "bin" / other).exists() and not (target / "stamp" / other).exists()
+        yield f"{name}: it alone is built", not (tree / "crates" / other / "out").exists()
 
 
 def function_checks():
@@ -287,8 +292,8 @@ def main():
     devices.add_option(options)
     chosen = options.parse_args()
     for name in PROGRAMS:
-        if not (BUILT / name).is_file():
-            sys.exit(f"script: target/bin/{name} is not there: `rt check` proves and builds it")
+        if not (made(name)).is_file():
+            sys.exit(f"script: {absent(made(name))}")
     if not os.access(SCRIPT, os.X_OK):
         sys.exit("script: ./sheet is no file that can be run")
     for words, *_ in PROGRAMS.values():

@@ -22,7 +22,7 @@ import devices
 import second_pbm
 import sheets
 import whole_file
-from program import BUILT, ROOT, written_by
+from program import ROOT, made, written_by
 from second_text import WHOLE, WHOLE_LISTING, written
 
 SCRIPT = ROOT / "sheet"
@@ -42,7 +42,7 @@ def picture_checks(run, refusals):
     for name, text in (("lost-oval", sheets.text("lost-oval")), ("node", sheets.text("node")), ("a deep sheet", DEEP)):
         status, out, err = run("--pbm", "-", given=text)
         yield f"{name}, for a printer", (status, out, err) == (0, second_pbm.picture_text(text), "")
-        yield f"{name}, for a printer, just as the program writes it", out == written_by(BUILT / "picture", text)
+        yield f"{name}, for a printer, just as the program writes it", out == written_by(made("picture"), text)
     yield "a file, for a printer", run("--pbm", NODE) == (0, second_pbm.picture_text(NODE.read_bytes()), "")
     for number, (text, words) in {words.split(":")[0]: (text, words) for text, words in reversed(refusals)}.items():
         status, out, err = run("--pbm", "-", given=text)

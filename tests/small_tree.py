@@ -18,15 +18,16 @@ listing: probe
     "crates/numbers/src/lib.rt": """\
 // Whole numbers on the machine.
 // An inner crate: what its functions require, every caller proves.
-ghost use mathlib.Core.Path.{_≡_};
-ghost use Prim.Native.Nat.{_/_, _≤_};
+#![tactic(auto)]
+
+ghost use Rattle.std.specs.Prelude.{◌≡◌, ◌/◌, ◌≤◌};
 
 pub const CEILING: u64 = 8;
 
 // Half of n.
 pub fn half(n: u64) -> u64
-    requires { ⌜ n ≤ 8 ⌝ }
-    ensures { λ r. ⌜ r ≡ n / 2 ⌝ }
+    requires { n ≤ 8 }
+    ensures { result ≡ n / 2 }
 {
     n / 2
 }
@@ -34,12 +35,15 @@ pub fn half(n: u64) -> u64
     "crates/verdicts/src/lib.rt": """\
 // What a verdict is.
 // An inner crate: types, and no functions.
+#![tactic(auto)]
+
+#[derive(Drop)]
 pub enum Verdict {
     Above,
     Below,
 }
 """,
-    "crates/page/src/lib.rt": "// No code: the page as definitions.\n",
+    "crates/page/src/lib.rt": "// No code: the page as definitions.\n#![tactic(auto)]\n",
     "crates/page/specs/Lib.antt": """\
 -- The page.
 pub mod Sheet
@@ -47,9 +51,7 @@ pub mod Facts
 """,
     "crates/page/specs/Sheet.antt": """\
 -- What a sheet holds.
-use mathlib.Core.List.{List}
-use Prim.Native.Nat.{ℕ}
-use lib.IntN.{ℤ}
+use Rattle.std.specs.Prelude.{List, ℕ, ℤ}
 
 pub record Sheet : Type 0 where
   pub d : ℕ
@@ -59,37 +61,40 @@ pub record Sheet : Type 0 where
   pub s : ℕ
   pub k : ℕ
 
-abbrev pub sheet-of : ℕ → List ℤ → ℤ → ℤ → ℕ → ℕ → Sheet
-sheet-of d A x y s k = record { d = d; A = A; X = x; Y = y; s = s; k = k }
+abbrev pub sheet_of : ℕ → List ℤ → ℤ → ℤ → ℕ → ℕ → Sheet
+sheet_of d A x y s k = record { d = d; A = A; X = x; Y = y; s = s; k = k }
 """,
     "crates/page/specs/Facts.antt": """\
 -- What the page says of a sheet.
-use mathlib.Core.Path.{_≡_}
-use Rattle·page·specs.specs.Sheet.{Sheet}
+use Rattle.std.specs.Prelude.{◌≡◌}
+use Rattle.page.specs.Sheet.{Sheet}
 
 -- its degree is its own
 abbrev pub OwnDegree : Type 0
-OwnDegree = (S : Sheet) → S .d ≡ S .d
+OwnDegree = (S : Sheet) → S.d ≡ S.d
 """,
     "crates/page/proofs/Lib.antt": "pub mod Facts\n",
     "crates/page/proofs/Facts.antt": """\
 -- That it holds.
-use mathlib.Core.Path.{refl}
-use Rattle·page·specs.specs.Facts.{OwnDegree}
+use Rattle.std.proofs.Path.{refl}
+use Rattle.page.specs.Facts.{OwnDegree}
 
-pub own-degree : OwnDegree
-own-degree S = refl
+pub own_degree : OwnDegree
+own_degree S = refl
 """,
     "crates/probe/src/lib.rt": """\
 // The calls: check a sheet, and fill a place.
+#![tactic(auto)]
+
 pub use verdicts::Verdict;
 
 mod refusals;
 
-ghost use Rattle·page.specs.Sheet.{sheet-of};
-ghost use Rattle·probe·specs.specs.Promises.{CheckPromise, FillPromise};
+ghost use Rattle.page.specs.Sheet.{sheet_of};
+ghost use Rattle.probe.specs.Promises.{CheckPromise, FillPromise};
 
 // A verdict, or a refusal.
+#[derive(Drop)]
 pub enum Checked {
     Accepted { verdict: Verdict },
     Refused(u32),
@@ -102,7 +107,7 @@ struct Known {
 
 // Check a sheet.
 pub fn check(d: u32, coefficients: &[i32], x: i32, y: i32, s: u32, k: u32) -> Checked
-    ensures { λ r. ⌜ CheckPromise (sheet-of d (now (coefficients .entry)) x y s k) r ⌝ }
+    ensures { CheckPromise (sheet_of d coefficients.now x y s k) result }
 {
     Checked::Refused(refusals::first(d))
 }
@@ -112,19 +117,18 @@ pub fn fill(
     mode: u32,
     place: &mut [u8],
 ) -> u32
-    ensures { λ r. ⌜ FillPromise mode (now (place .entry)) r (now (place .exit)) ⌝ }
+    ensures { FillPromise mode place.old result place.new }
 {
     refusals::first(mode)
 }
 """,
     "crates/probe/src/refusals.rt": """\
 // The conditions that the calls try. Nothing shows them.
-ghost use mathlib.Core.Path.{_≡_};
-ghost use Prim.Native.Nat.{_≤_};
+ghost use Rattle.std.specs.Prelude.{◌≡◌, ◌≤◌};
 
 pub fn first(n: u32) -> u32
-    requires { ⌜ n ≤ 8 ⌝ }
-    ensures { λ r. ⌜ r ≡ n ⌝ }
+    requires { n ≤ 8 }
+    ensures { result ≡ n }
 {
     numbers::half(n)
 }
@@ -132,15 +136,13 @@ pub fn first(n: u32) -> u32
     "crates/probe/specs/Lib.antt": "pub mod Promises\n",
     "crates/probe/specs/Promises.antt": """\
 -- The promises of the calls.
-use mathlib.Core.Path.{_≡_}
-use mathlib.Core.List.{List}
-use Prim.Native.Nat.{ℕ}
-use Rattle·page.specs.Sheet.{Sheet}
-use Rattle·probe·specs.specs.declared.Checked.{Checked}
-use Rattle·probe·specs.specs.declared.Checked.the-variants.{Refused}
+use Rattle.std.specs.Prelude.{◌≡◌, List, ℕ}
+use Rattle.page.specs.Sheet.{Sheet}
+use Rattle.probe.specs.declared.Checked.{Checked}
+use Rattle.probe.specs.declared.Checked.TheVariants.{Refused}
 
 abbrev pub CheckPromise : Sheet → Checked → Type 0
-CheckPromise S r = r ≡ Refused (S .d)
+CheckPromise S r = r ≡ Refused (S.d)
 
 abbrev pub FillPromise : ℕ → List ℕ → ℕ → List ℕ → Type 0
 FillPromise mode old r now = (r ≡ mode) × (now ≡ old)
@@ -155,24 +157,24 @@ OneFill = (mode : ℕ) (old : List ℕ) (r t : ℕ) (now after : List ℕ) → F
     "crates/probe/proofs/Lib.antt": "pub mod Promises\n",
     "crates/probe/proofs/Promises.antt": """\
 -- That no second outcome satisfies a promise.
-use mathlib.Core.Path.{sym, _∙_}
-use Rattle·probe·specs.specs.Promises.{OneCheck, OneFill}
+use Rattle.std.proofs.Path.{sym, ◌∙◌}
+use Rattle.probe.specs.Promises.{OneCheck, OneFill}
 
-pub one-check : OneCheck
-one-check S r t p q = p ∙ sym q
+pub one_check : OneCheck
+one_check S r t p q = p ∙ sym q
 
-pub one-fill : OneFill
-one-fill mode old r t now after p q = (p .0 ∙ sym (q .0), p .1 ∙ sym (q .1))
+pub one_fill : OneFill
+one_fill mode old r t now after p q = (p.0 ∙ sym q.0, p.1 ∙ sym q.1)
 """,
-    "crates/probe/must-fail/another_number.edit": "refused: proofs/check/Proof.antt returns\nfile: src/lib.rt\nold: first(d)\nnew: first(k)\n",
-    "crates/probe/must-fail/everything_refused.edit": "refused: proofs/refusals/first/Proof.antt returns\nfile: src/refusals.rt\nold:     numbers::half(n)\nnew:     8\n",
+    "crates/probe/must-fail/another_number.edit": "refused: check returns\nfile: src/lib.rt\nold: first(d)\nnew: first(k)\n",
+    "crates/probe/must-fail/everything_refused.edit": "refused: refusals::first returns\nfile: src/refusals.rt\nold:     numbers::half(n)\nnew:     8\n",
     "crates/probe/must-fail/place_cleared.edit": """\
-refused: proofs/fill/Proof.antt returns
+refused: proofs/fill/Answers.antt returns
 file: src/lib.rt
 old:     refusals::first(mode)
 new:     place[0] = 0; refusals::first(mode)
 """,
-    "crates/listing/src/main.rt": "// The program.\nfn main() {\n    probe::fill(8, &mut []);\n}\n",
+    "crates/listing/src/main.rt": "// The program.\n#![tactic(auto)]\n\nfn main() {\n    probe::fill(8, &mut []);\n}\n",
     "docs/PROMISES.md": """\
 # What is promised
 
@@ -183,12 +185,12 @@ new:     place[0] = 0; refusals::first(mode)
 
 | call | statement | theorem |
 |---|---|---|
-| `check` | `crates/probe/specs/Promises.antt` `OneCheck` | `crates/probe/proofs/Promises.antt` `one-check` |
-| `fill` | `crates/probe/specs/Promises.antt` `OneFill` | `crates/probe/proofs/Promises.antt` `one-fill` |
+| `check` | `crates/probe/specs/Promises.antt` `OneCheck` | `crates/probe/proofs/Promises.antt` `one_check` |
+| `fill` | `crates/probe/specs/Promises.antt` `OneFill` | `crates/probe/proofs/Promises.antt` `one_fill` |
 
 | sentence | statement | theorem |
 |---|---|---|
-| a sheet's degree is its own | `crates/page/specs/Facts.antt` `OwnDegree` | `crates/page/proofs/Facts.antt` `own-degree` |
+| a sheet's degree is its own | `crates/page/specs/Facts.antt` `OwnDegree` | `crates/page/proofs/Facts.antt` `own_degree` |
 
 | edit | what it would mean | refused by |
 |---|---|---|
@@ -200,7 +202,7 @@ new:     place[0] = 0; refusals::first(mode)
     "docs/PAGE.md": """\
 | sentence | definition | theorem, edit or test |
 |---|---|---|
-| "a degree" | `crates/page/specs/Sheet.antt` `Sheet` | `crates/page/proofs/Facts.antt` `own-degree` |
+| "a degree" | `crates/page/specs/Sheet.antt` `Sheet` | `crates/page/proofs/Facts.antt` `own_degree` |
 """,
     "docs/DESIGN.md": """\
 # The map

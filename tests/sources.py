@@ -14,6 +14,9 @@ ROOT = pathlib.Path(__file__).resolve().parent.parent
 KINDS = {("forms", "Points", "Point"), ("verdicts", "Walking", "Verdicts")}
 # what a line of a source has besides code: texts, and a comment at its end
 ASIDE = {".antt": re.compile(r'"(?:\\.|[^"\\])*"|--.*'), ".rt": re.compile(r"""b'(?:\\.|[^'\\])+'|"(?:\\.|[^"\\])*"|//.*""")}
+# the words of antt: what has such a name in code stands in « » in antt
+WORDS = ("data|record|deriving|module|where|use|mod|pub|package|open|as|unfoldable|abbrev|axiom|unfold|unfolding|ruleset|mutual|infix[lr]?|elim|let|in|do|Type"
+         "|f?coe|tcoe|hcom|com")
 # a name of antt is any run of other characters than these
 NAME = r'[^\s(){}.;,@"«»]+'
 USING = r"^[ \t]*((?:(?:unfoldable|pub)[ \t]+)*)use\b"
@@ -84,7 +87,7 @@ def oddities(path):
         for found in ASIDE[path.suffix].finditer(line):
             if found[0][0] in "-/" and not (re.search(r"(?:^|\s)$", line[:found.start()]) and re.match(r"(--|//)(?:\s|$|-|/)", found[0])):
                 yield number, f"a {found[0][:2]} that need not begin a comment"
-        if re.search(r"«(?!\w*_\w*»)", code):
+        if re.search(rf"«(?!(?:{WORDS})»)", code):
             yield number, "a name in « » that needs none"
     text = "\n".join(code_of(path))
     starts, wholes = (USING, USE) if path.suffix == ".antt" else (GHOST_USING, GHOST_USE)
@@ -112,15 +115,14 @@ def uses_in(text, suffix):
         yield Use(text[:found.end()].count("\n") + 1, marks.split(), home, brought)
 
 
-def brings(path, homes, name):
-    """Whether a source brings in a name once, as itself, and from one of its homes."""
-    found = [(use.home, item) for use in uses(path) for item, given in use.items if given == name]
-    return len(found) == 1 and found[0] in [(home, name) for home in homes]
+def brings(path, home, name):
+    """Whether a source brings in a name once, as itself, and from its home."""
+    return [(use.home, item) for use in uses(path) for item, given in use.items if given == name] == [(home, name)]
 
 
 def specs_of(crate, file):
-    """The homes of what a file of a crate's specs/ declares: from within the crate, and from without."""
-    return f"Rattle·{crate}·specs.specs.{file.replace('/', '.')}", f"Rattle·{crate}.specs.{file.replace('/', '.')}"
+    """The home of what a file of a crate's specs/ declares, from within the crate and from without."""
+    return f"Rattle.{crate}.specs.{file.replace('/', '.')}"
 
 
 def blocks(path):

@@ -11,7 +11,7 @@ import termios
 import time
 
 import devices
-from program import ROOT, command, ended, settings
+from program import ROOT, command, ended
 from second_text import LONGEST, WHOLE, written
 
 STACK = 512 * 1024
@@ -38,7 +38,7 @@ def taken(started):
 
 def in_pieces(program, pieces):
     """A run whose input comes piece by piece: none is written before those before it have been read."""
-    started = subprocess.Popen(command(program), stdin=subprocess.PIPE, stdout=subprocess.PIPE, stderr=subprocess.PIPE, env=settings())
+    started = subprocess.Popen(command(program), stdin=subprocess.PIPE, stdout=subprocess.PIPE, stderr=subprocess.PIPE)
     try:
         for piece in pieces:
             taken(started)
@@ -68,7 +68,7 @@ def unreadable(program, name):
             yield f"standard input that fails after {part}", devices.NO_TERMINAL
     for kind, opened in inputs:
         stdin = opened()
-        run = subprocess.run(command(program), stdin=stdin, capture_output=True, env=settings())
+        run = subprocess.run(command(program), stdin=stdin, capture_output=True)
         os.close(stdin)
         yield f"standard input {kind}", fault_unless_told(run, f"{name}: standard input cannot be read")
 
@@ -81,7 +81,7 @@ def unwritable(program, name):
                 yield f"standard output {kind}, {given}", devices.NO_FULL
                 continue
             stdout = os.open(path, way)
-            run = subprocess.run(command(program), input=text, stdout=stdout, stderr=subprocess.PIPE, env=settings())
+            run = subprocess.run(command(program), input=text, stdout=stdout, stderr=subprocess.PIPE)
             os.close(stdout)
             yield f"standard output {kind}, {given}", fault_unless_told(run, f"{name}: standard output cannot be written")
 

@@ -3,7 +3,7 @@
     python3 tests/texts.py [--seed S] [--cases N]     N random texts, beside those of known make
     python3 tests/texts.py --only NUMBER              one text of that run again, by its number
 
-The program target/bin/compare_texts is run once, on all texts of tests/text_cases.py and tests/fault_cases.py, each with a place for the call
+The program `compare_texts` is run once, on all texts of tests/text_cases.py and tests/fault_cases.py, each with a place for the call
 `answer`, of tests/text_places.py: first each text with a place that has the room, of which what is written is shown, up to 600 entries after it, and the
 last ones; then texts of every answer, and the one with the longest listing, with places of every length and content, of which all is shown. It answers
 for each 54 words of 8 bytes, all little-endian: the number, the line, the field, d, X, Y, s, k, the mode and the 45 coefficients; then in one more word
@@ -17,7 +17,7 @@ put in and is not seen makes a run fail, as do two that are seen in one line and
 wrong rule from the right one: for the weight by their numbers (tests/weights.py), for the faults of lines by number, line and field
 (tests/fault_rules.py).
 
-Then target/bin/listing itself is run: on the page's whole case, on input that comes in pieces, that is empty, far too long, or cannot be read, at all
+Then the program `listing` itself is run: on the page's whole case, on input that comes in pieces, that is empty, far too long, or cannot be read, at all
 or after some of it, with an output that cannot be written (tests/streams.py), on a text of each kind, and on those of sheets/, whose stored listings it
 must write. That these are as sheets/README.md says is for tests/sheets.py. A run that cannot be tried, since the machine lacks a device, is a fault,
 unless --without-devices is said (tests/devices.py).
@@ -40,7 +40,7 @@ import streams
 import text_places
 import weights
 from case_sheets import EDGE, LEAST31, MOST31
-from program import BUILT, ended, number, written_by
+from program import absent, ended, made, number, written_by
 from streams import fault_of
 from text_cases import CEILING
 from second_text import LONGEST, PLACES, ROOM, WHOLE, WHOLE_LISTING
@@ -247,8 +247,8 @@ def main():
     options.add_argument("--seed", type=int, default=20250202)
     options.add_argument("--cases", type=int, default=4000)
     options.add_argument("--only", type=int)
-    options.add_argument("--program", type=pathlib.Path, default=BUILT / "compare_texts")
-    options.add_argument("--listing", type=pathlib.Path, default=BUILT / "listing")
+    options.add_argument("--program", type=pathlib.Path, default=made("compare_texts"))
+    options.add_argument("--listing", type=pathlib.Path, default=made("listing"))
     devices.add_option(options)
     chosen = options.parse_args()
     cases = fault_cases.every_text(chosen.seed, chosen.cases)
@@ -266,7 +266,7 @@ def main():
         if written_by(chosen.program, text_places.MADE) != bytes(ROOM):
             faults.append(f"reply::place makes other than {ROOM} zeros")
         if not chosen.listing.is_file():
-            sys.exit(f"texts: {chosen.listing} is not there: `rt check` proves and builds it")
+            sys.exit(f"texts: {absent(chosen.listing)}")
         runs = list(listing_runs(chosen.listing, cases, told))
     untried = devices.left_out(runs, chosen)
     failed = [(name, fault) for name, fault in runs if fault and (name, fault) not in untried]

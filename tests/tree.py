@@ -4,13 +4,16 @@
   public where another file may bring it in. The must-fail edits that they name are there, and docs/PROMISES.md has a row for each.
 - Where a table of the first two has the columns 'statement' and 'theorem', the statement is closed, and the theorem is declared with
   just that statement as its type, brought in from the file of specs/. Every other statement of such a file has its row too.
+- A function that stands as a theorem in a table of these ensures something: the check proves that it does, or nothing is built.
 - docs/PAGE.md has in each row a sentence, a definition, and what stands behind it: files and must-fail edits that are there.
 - Every file of a crate that a document names stands in the tree, and docs/DESIGN.md names each file of src/, specs/ and proofs/, and
   each crate.
 - A source means what its lines show: no comment stands in the midst of code, no character is unseen, no name is that of a library.
-- No axiom and no hole stands in a crate, and no function of C is declared in one. No definition and no contract rests on anything of a folder proofs/.
+- No axiom and no hole stands in a crate, and no function of C is declared in one. No definition and no contract rests on anything of a folder proofs/;
+  what the kit's own library std has there is the kit's.
 - What must be read for the law, the definitions of document 01 and what they name, rests on nothing else of the tree, and has no function.
-- No library rests on the kit's crates that call functions of C: programs alone do.
+- Nothing of the world outside stands below a library: programs and their parts alone name what std has of it, or rest on the kit's crates that call
+  functions of C.
 - A crate names each crate that crates.txt has it rest on.
 - No file of a crate, of tests/ or of bench/ is over 400 lines, and no source brings in a name that it does not use.
 - Inner crates say that they are, and what other libraries show to the outside is held to its promises: tests/faces.py.
@@ -37,7 +40,10 @@ LONGEST = 400
 LAW = ("algebra", "forms", "verdicts", "page", "pbm")
 # the kit's crates that call functions of C
 OUTSIDE = ("io", "libc", "os")
-# parts of programs that more than one of them has: libraries that call those, and that only programs rest on
+# what std has of the world outside, in code: its modules, the handle by which a program reaches it, and what prints
+WORLD = re.compile(r"(?<![\w.])(?:std|core)\s*::\s*(?:\{[^;]*?\b)?(?:env|fd|ffi|fs|io|net|os|process|random|rt|runtime|thread|time)\b"
+                   r"|\b(?:Host)?Runtime\b|\be?print(?:ln)?\s*!|\bdbg\s*!")
+# parts of programs that more than one of them has: libraries that read and write, and that only programs rest on
 PARTS = ("items", "intake")
 # the documents that cite by file and name
 CITING = ("PROMISES.md", "THEORY.md", "PAGE.md")
@@ -51,8 +57,12 @@ DECLARED = {
     ".rt": r"^(?:pub )?(?:fn|struct|enum|const) {}\b",
     ".py": r"^(?:def {}\(|{} = )",
 }
+# what the kit's library std has among its proofs: a few words of its own, as the powers of whole numbers
+KIT_PROOFS = re.compile(r"(?<![^\s(])Rattle\.std\.proofs\.(?=[A-Z]|lemmas\.[A-Z])")
 EDIT = r"`(\w+/must-fail/\w+)`"
 MENTIONED = r"`((?:crates|tests|docs|bench|sheets|\.ci)/[^`*{ ]+)`"
+# the columns of their tables with what is proved
+PROVED = re.compile(r"\b(?:theorem|kept by the code)\b")
 SENTENCES = ["sentence", "definition", "theorem, edit or test"]
 PLACES = re.compile(r"/(?:{0})/|(?:^|[^\w.*/-])/(?:{0})\b".format("|".join(("opt", "home", "root", "work", "tmp", "usr", "var", "mnt", "srv", "Users"))))
 
@@ -79,11 +89,16 @@ def edits():
         for name in sorted(set(re.findall(EDIT, document(page))) - tried):
             yield f"docs/{page} names the edit {name}, which is not in the tree"
     rows = [cells[0].strip("`") for columns, cells in tables("PROMISES.md") if columns == faces.EDITED]
+    functions = {crate: {"::".join((*module.path, name)) for module in root.within() for name, _ in module.named_functions()}
+                 for crate, root in faces.roots().items() if root}
     for name in sorted(name for name in tried if rows.count(name) != 1):
         yield f"docs/PROMISES.md has {rows.count(name)} rows for the edit {name}"
     for name in sorted(tried):
-        if not re.search(r"^refused: proofs/\S+ \S", text_of(at(f"crates/{name}.edit")), re.M):
+        said = re.findall(r"^refused: (\S+) \S+$", text_of(at(f"crates/{name}.edit")), re.M)
+        if not said:
             yield f"{name} does not say which proof refuses it"
+        for one in [one for one in said if not one.startswith("proofs/") and one not in functions.get(name.split("/")[0], [one])]:
+            yield f"{name} is refused by {one}, which is neither a file of proofs/ nor a function of its crate"
         for file in re.findall(r"^file: (?!src/|specs/)(.*)$", text_of(at(f"crates/{name}.edit")), re.M):
             yield f"{name} is an edit of {file}, which is neither code nor a definition"
 
@@ -146,6 +161,19 @@ def sentences():
             path = at(name.strip("`")).resolve()
             if not (path.is_file() and path.is_relative_to(sources.ROOT)) and (path.exists() or not re.fullmatch(MENTIONED, name)):
                 yield f"docs/PAGE.md has {name} behind {cells[0]}, which is neither a file nor an edit"
+
+
+def ensured():
+    """A function that is cited as a theorem has a contract to keep."""
+    modules = [module for root in faces.roots().values() if root for module in root.within()]
+    functions = {(named(module.file), name): one for module in modules for name, one in module.named_functions()}
+    for page in CITING:
+        for columns, cells in tables(page):
+            cited = [found for column, cell in zip(columns, cells) if PROVED.search(column) for found in CITED.findall(cell)]
+            for file, name in [(file, name) for file, names in cited for name in re.findall(r"`([^`]+)`", names)]:
+                one = functions.get((file, name))
+                if one and "ensures" not in [word for word, _ in one.clauses]:
+                    yield f"docs/{page} has {name} of {file} as a theorem, which ensures nothing"
 
 
 # ---- statements
@@ -220,11 +248,21 @@ def disguises():
                 yield f"{named(path)}:{number} gives something else the name of the library {name}"
 
 
+def in_antt(path):
+    """What of a source is antt, with the number of its line: of code that is what stands in clauses, since elsewhere a `?` passes an error on."""
+    if path.suffix == ".antt":
+        return list(enumerate(code_of(path), 1))
+    try:
+        return rattle.clauses(text_of(path))
+    except rattle.Unread:
+        return []
+
+
 def axioms_and_holes():
     for path in sources.sources():
-        for number, line in enumerate(code_of(path), 1):
-            if {"axiom", "Axiom"} & set(re.findall(NAME, line)) or "?" in line or "{!" in line:
-                yield f"{named(path)}:{number} has an axiom or a hole"
+        words = {number for number, line in enumerate(code_of(path), 1) if {"axiom", "Axiom"} & set(re.findall(NAME, line))}
+        for number in sorted(words | {number for number, text in in_antt(path) if "?" in text or "{!" in text}):
+            yield f"{named(path)}:{number} has an axiom or a hole"
     for root in filter(None, faces.roots().values()):
         for module in root.within():
             for line in module.foreign:
@@ -235,18 +273,21 @@ def definitions_alone():
     """What a reader must believe is in specs/ and in the contracts: nothing of proofs/ is behind them, by whatever path it is named."""
     for path in [path for path in sources.sources() if path.suffix == ".rt" or "specs" in path.relative_to(sources.ROOT).parts]:
         for number, line in enumerate(code_of(path), 1):
-            if re.search(r"\bproofs\b", line):
+            if re.search(r"\bproofs\b", KIT_PROOFS.sub("", line)):
                 yield f"{named(path)}:{number} rests on something of proofs/"
 
 
 def worldless():
     """Nothing of the world outside stands below a library, but for the parts of programs: docs/ASSUMPTIONS.md says that its calls rest on no function of C."""
     for crate, below in sources.listed().items():
-        if crate in PARTS:
+        if crate in PARTS or at(f"crates/{crate}/src/main.rt").is_file() and not at(f"crates/{crate}/src/lib.rt").is_file():
             continue
-        for name in OUTSIDE + PARTS if not at(f"crates/{crate}/src/main.rt").is_file() or at(f"crates/{crate}/src/lib.rt").is_file() else ():
-            if name in below:
-                yield f"crates.txt has {crate}, which is no program, rest on {name}"
+        for name in [name for name in OUTSIDE + PARTS if name in below]:
+            yield f"crates.txt has {crate}, which is no program, rest on {name}"
+        for path in sorted(at(f"crates/{crate}/src").glob("**/*.rt")):
+            text = "\n".join(code_of(path))
+            for found in WORLD.finditer(text):
+                yield f"{named(path)}:{text[:found.start()].count(chr(10)) + 1} names `{' '.join(found[0].split())}`, and {crate} is no program"
 
 
 def named_below():
@@ -254,7 +295,7 @@ def named_below():
     for crate, below in sources.listed().items():
         files = [path for path in sources.sources() if path.relative_to(sources.ROOT).parts[1] == crate]
         text = "\n".join(line for path in files for line in code_of(path))
-        for name in [name for name in below if not re.search(rf"Rattle·{name}\b|(?<![\w:·.]){name}::", text) and (crate, name) not in sources.explained()]:
+        for name in [name for name in below if not re.search(rf"(?<![\w.])Rattle\.{name}\b|(?<![\w:.]){name}::", text) and (crate, name) not in sources.explained()]:
             yield f"crates.txt has {crate} rest on {name}, which it does not name"
 
 
@@ -277,13 +318,13 @@ def lengths():
 
 
 def imports():
-    """Names brought in by `use`, and in code by `ghost use`, that a file does not use."""
+    """Names brought in by `use`, and in code by `ghost use`, that a file does not use; of an operator, its parts."""
     for path in sources.sources():
         body = (sources.USE if path.suffix == ".antt" else re.compile(r"^[ \t]*(?:pub |ghost )*use [^;]*;", re.M)).sub("", "\n".join(code_of(path)))
         words = set(re.findall(NAME, body))
         for use in uses(path):
             for name in [name for _, name in use.items if "pub" not in use.marks and name != "*"]:
-                if name not in words and not all(part in words for part in name.split("_") if part):
+                if name not in words and not ("◌" in name and all(part in words for part in name.split("◌") if part)):
                     yield f"{named(path)}:{use.line} brings in {name} and does not use it"
 
 
@@ -321,7 +362,7 @@ def places():
 
 
 RULES = (
-    citations, statements, edits, sentences, mentions, the_map, crate_rows, readable, disguises, axioms_and_holes, definitions_alone, law,
+    citations, statements, edits, sentences, ensured, mentions, the_map, crate_rows, readable, disguises, axioms_and_holes, definitions_alone, law,
     worldless, named_below, lengths, imports,
     faces.inner_crates, faces.shown_types, faces.contracts, faces.promises_told, faces.known_calls, faces.one_outcome, faces.wrong_answers, costs, places,
 )
