@@ -23,14 +23,14 @@ enum_known-listed c = search rules
 pub slice_bounds-records-end : goal.slice_bounds-records-end
 slice_bounds-records-end c =
     let long : length c.record_space-records.result ≡ 16_384 = sym c.record_space-records.ensures in
-    let fitting : c.in-Records.length ≤ length c.list_records-listed.new.1.0 = let f = c.requires.0 in
+    let fitting : c.in-Records.length ≤ length c.list_records-listed.new.records = let f = c.requires.0 in
     within f.said f.passed c.record_space-records.result long (c.list_records-listed.ensures f.said f.passed f.read) c.in-Records.is in
     fitting
 
 pub slice_bounds-write_listing-end : goal.slice_bounds-write_listing-end
 slice_bounds-write_listing-end c =
     let long : length c.record_space-records.result ≡ 16_384 = sym c.record_space-records.ensures in
-    let fitting : c.in-Records.length ≤ length c.list_records-listed.new.1.0 = let f = c.requires.0 in
+    let fitting : c.in-Records.length ≤ length c.list_records-listed.new.records = let f = c.requires.0 in
     within f.said f.passed c.record_space-records.result long (c.list_records-listed.ensures f.said f.passed f.read) c.in-Records.is in
     sym (length-take-le _ _ fitting)
 

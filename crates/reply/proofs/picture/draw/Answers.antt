@@ -22,14 +22,14 @@ finest-count-requires c = deep c.requires.0
 pub slice_bounds-raster-end : goal.slice_bounds-raster-end
 slice_bounds-raster-end c =
     let long : length c.raster_space-raster.result ≡ 16_384 = sym c.raster_space-raster.ensures in
-    let fitting : c.finest-count.result ≤ length c.paint.new.1.0 = let f = c.requires.0 in
+    let fitting : c.finest-count.result ≤ length c.paint.new.raster = let f = c.requires.0 in
     count_within f.said f.passed f.read c.raster_space-raster.result long (c.paint.ensures f.said f.passed f.read) c.finest-count.ensures in
     fitting
 
 pub slice_bounds-write_pbm-end : goal.slice_bounds-write_pbm-end
 slice_bounds-write_pbm-end c =
     let long : length c.raster_space-raster.result ≡ 16_384 = sym c.raster_space-raster.ensures in
-    let fitting : c.finest-count.result ≤ length c.paint.new.1.0 = let f = c.requires.0 in
+    let fitting : c.finest-count.result ≤ length c.paint.new.raster = let f = c.requires.0 in
     count_within f.said f.passed f.read c.raster_space-raster.result long (c.paint.ensures f.said f.passed f.read) c.finest-count.ensures in
     sym (length-take-le _ _ fitting)
 
