@@ -12,7 +12,7 @@ use Rattle.algebra.proofs.Digits.{digits_mono}
 use Rattle.forms.specs.Weight.{weight as plane-weight}
 use Rattle.forms.proofs.Plane.{both, weight_plane}
 use Rattle.forms.proofs.Size.{weight_mono}
-use Rattle.page.specs.Sheet.{Sheet}
+use Rattle.page.specs.Sheet.{Sheet, A}
 use Rattle.page.specs.Weight.{weight, spare}
 use Rattle.page.specs.Refusals.{Input, Row, ◌when◌, table, first, refusal, unless, to_check, at_point, in_cell, to_walk}
 use Rattle.page.specs.SheetLine.{lines}
@@ -35,7 +35,7 @@ use Rattle.earlier.specs.WeightStays.{NoHeavier, SameOnDiagonal, AcceptedStays, 
 -- the old one is that of the polynomial in the plane, with R for both variables
 old_weight_is : (S : Sheet) → old_weight S ≡ plane-weight (polynomial S) (λ v. old_R S)
 unfolding old_weight
-old_weight_is S = sym (weight_plane S.d S.k _ (old_R S))
+old_weight_is S = sym (weight_plane S.d S.k (λ i j. A S i j) (old_R S))
 
 pub no_heavier : NoHeavier
 no_heavier S = rw (weight_is S, old_weight_is S) (weight_mono (polynomial S) (limits S) (λ v. old_R S) (both (λ v. limits S v ≤ old_R S) (omega arith) (omega arith)))
