@@ -1,4 +1,4 @@
--- The local form of a cell from the sheet: the scaled coefficients moved to the centre, each place times its power of the half_side. And the value at a point.
+-- The local form of a cell from the sheet: the scaled coefficients moved to the centre, each place times its power of the half-side. And the value at a point.
 use mathlib.Core.Path.{◌≡◌, sym, ◌∙◌, ap}
 use mathlib.Core.List.{List}
 use Prim.Native.Nat.{ℕ, ◌+◌, ◌*◌, ◌-◌, ◌^◌, ◌≤◌, ◌<◌}
@@ -66,7 +66,7 @@ module _ {S : Sheet} (a : Accepted S) {form : Form} (f : Tabled S.d (scaled S) f
         }
 
     module _ {there : List ℤ} (w : Moved S.d (U0 S j p) (V0 S j q) form.places there) where
-      -- the power of the half_side
+      -- the power of the half-side
       half_power : (n m : ℕ) → pos (2 ^ Places.doublings (S.s + S.k - j) 0 n m) ≡ pow (pos (half_side S j)) n
       half_power n m =
           let e = S.s + S.k - j in let same : e * n + 0 * m ≡ e * n = rw (Nat.zero-mul m) (Nat.add-zero (e * n)) in

@@ -58,7 +58,7 @@ module _ (S : Sheet) (j p q : ℕ) (above : j < S.k) where
   halves : half_side S j ≡ 2 * half
   halves = let e : S.s + S.k - j ≡ suc (S.s + S.k - (j + 1)) = omega arith in ap (λ n. 2 ^ n) e ∙ Nat.pow-suc 2 (S.s + S.k - (j + 1)) ∙ Nat.mul_comm half 2
 
-  -- the local form about the cell's own centre, with the half_side of a part
+  -- the local form about the cell's own centre, with the half-side of a part
   abbrev inner : ℕ → ℕ → ℤ
   inner a b = local (polynomial S) (centre S j p q) half (a ∷ b ∷ [])
 

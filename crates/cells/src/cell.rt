@@ -26,7 +26,7 @@ fn centre(z: i32, k: u32, p: u32, h: i64) -> i64
     numbers::sum(corner(z, k), numbers::product(odd, h))
 }
 
-// The local form of the cell at level j, column p, row q: the scaled form moved to the centre, and each place times its power of the half_side.
+// The local form of the cell at level j, column p, row q: the scaled form moved to the centre, and each place times its power of the half-side.
 pub fn cell_form(
     d: u32,
     coefficients: &[i32],

@@ -33,7 +33,7 @@ ten_line_numbers letter ns l = cond l.ended (ten_after_letter letter ns (fields 
 abbrev pub is_admitted : ℕ → List Term → Term → Bool
 is_admitted d ts t = leb (t.i + t.j) d && leb t.i 8 && leb t.j 8 && not (is_named t.i t.j ts)
 
--- ---- a text was bad at a line, counted from 1, or it was well_formed
+-- ---- a text was bad at a line, counted from 1, or it was well-formed
 pub data TenText : Type 0 where
   ten_bad_line : ℕ → TenText
   ten_well_formed : Said → TenText

@@ -1,4 +1,4 @@
--- A finer scale, as a deeper sheet has: with the scale, the centre and the half_side all times c, the form, both bounds and the bend are times c^d.
+-- A finer scale, as a deeper sheet has: with the scale, the centre and the half-side all times c, the form, both bounds and the bend are times c^d.
 use mathlib.Core.Path.{◌≡◌, sym, ◌∙◌, ap, ap₂}
 use mathlib.Core.List.{List, [], ◌∷◌}
 use Prim.Native.Nat.{ℕ, ◌+◌, ◌*◌, ◌-◌, ◌^◌}

@@ -42,7 +42,7 @@ module _ (d : ℕ) (f : ℕ → ℕ → ℤ) (v : ℤ) where
       all ∙ sum_⋯_from a d t (λ i l. ap (λ x. along d f v i b *ℤ x) (entry_over u (pos 1) i a l) ∙ *ℤ-zero (along d f v i b))
       ∙ sum_cong (a ⋯ d) (λ i m. ap (λ x. x *ℤ entry u (pos 1) i a) (along_from i b))
 
--- ---- the local form of a table: the second variable moved, then the first, and then each place times its power of the half_side
+-- ---- the local form of a table: the second variable moved, then the first, and then each place times its power of the half-side
 module _ (d : ℕ) (f : ℕ → ℕ → ℤ) (u v : ℤ) where
   pub moved_both : (a b : ℕ) → across d (along d f v) u a b ≡ moved d f u v (pos 1) a b
   unfolding entry moved

@@ -1,4 +1,4 @@
--- The parts of a box: a box of half_side 2 H and centre u has the parts of half_side H and centres u + H σ, for signs σ.
+-- The parts of a box: a box of half-side 2 H and centre u has the parts of half-side H and centres u + H σ, for signs σ.
 use mathlib.Core.Path.{◌≡◌, sym, ◌∙◌, ap}
 use mathlib.Core.List.{List, [], ◌∷◌}
 use Prim.Native.Nat.{ℕ, ◌*◌, ◌^◌, ◌≤◌}

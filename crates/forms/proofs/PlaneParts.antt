@@ -38,7 +38,7 @@ module _ (d S : ℕ) (A : ℕ → ℕ → ℤ) (u : Point) (H : ℕ) (x y : ℤ)
       rw (Nat.mul-one (choose j b), *ℤ_idr (pow y (j - b)), one_pow (a + b))
       (ring (whole i j ∷ pos (choose i a) ∷ pos (choose j b) ∷ pow x (i - a) ∷ pow y (j - b) ∷ []) (λ g c e p q. g ⊗ (c ⊗ e) ⊗ (p ⊗ q) ≐ g ⊗ c ⊗ e ⊗ p ⊗ q ⊗ # 1) tt)))
 
-  -- the local form of the part, from that of the whole with the half_side of the part
+  -- the local form of the part, from that of the whole with the half-side of the part
   pub local_part_plane : (a b : ℕ) → a + b ≤ d → local (plane d S A) (corner u H (pair x y)) H (a ∷ b ∷ []) ≡ moved d whole x y (pos 1) a b
   unfolding moved
   local_part_plane a b l =

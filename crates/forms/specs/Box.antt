@@ -1,4 +1,4 @@
--- The closed box of centre u and half_side H, its points and its corners.
+-- The closed box of centre u and half-side H, its points and its corners.
 use Rattle.std.specs.Prelude.{◌≡◌, ℕ, ◌*◌, ◌≤◌, pos, ◌+ℤ◌, ◌-ℤ◌, ◌*ℤ◌, nat_abs}
 use Rattle.forms.specs.Points.{Point, Each}
 use Rattle.forms.specs.Polynomial.{Polynomial, value}

@@ -1,4 +1,4 @@
--- The local form over the box of centre u and half_side H: G(a), the sum of A(e) S^(d-|e|) C(e,a) u^(e-a) H^|a|.
+-- The local form over the box of centre u and half-side H: G(a), the sum of A(e) S^(d-|e|) C(e,a) u^(e-a) H^|a|.
 use Rattle.std.specs.Prelude.{List, ℕ, ℤ, pos, ◌*ℤ◌}
 use Rattle.std.proofs.Math.IntN.{pow}
 use Rattle.algebra.specs.Sum.{sum}

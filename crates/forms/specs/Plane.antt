@@ -32,11 +32,11 @@ abbrev pub even_pair : Mode → ℕ → ℕ → Bool
 even_pair affine a b = eqb (a % 2) 0 && eqb (b % 2) 0
 even_pair centred a b = false
 
--- P at the four corners of the square of centre (U0,V0) and half_side H: lower left, lower right, upper left, upper right
+-- P at the four corners of the square of centre (U0,V0) and half-side H: lower left, lower right, upper left, upper right
 abbrev pub AtCorners : ℤ → ℤ → ℕ → (ℤ → ℤ → Type 0) → Type 0
 AtCorners U0 V0 H P = P (U0 -ℤ pos H) (V0 -ℤ pos H) × P (U0 +ℤ pos H) (V0 -ℤ pos H) × P (U0 -ℤ pos H) (V0 +ℤ pos H) × P (U0 +ℤ pos H) (V0 +ℤ pos H)
 
--- what f(i,j) gives to the place (a,b) of its local form about (u, v) with the half_side h: f(i,j) C(i,a) C(j,b) u^(i-a) v^(j-b) h^(a+b)
+-- what f(i,j) gives to the place (a,b) of its local form about (u, v) with the half-side h: f(i,j) C(i,a) C(j,b) u^(i-a) v^(j-b) h^(a+b)
 abbrev pub moved_term : (ℕ → ℕ → ℤ) → ℤ → ℤ → ℤ → ℕ → ℕ → ℕ → ℕ → ℤ
 moved_term f u v h a b i j = f i j *ℤ pos (choose i a) *ℤ pos (choose j b) *ℤ pow u (i - a) *ℤ pow v (j - b) *ℤ pow h (a + b)
 

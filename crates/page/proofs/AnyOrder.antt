@@ -1,4 +1,4 @@
--- Terms may come in any order: two lines of a well_formed text exchanged.
+-- Terms may come in any order: two lines of a well-formed text exchanged.
 use mathlib.Core.Path.{◌≡◌, refl, sym, ◌∙◌, ap}
 use mathlib.Core.Bool.{Bool, true, false, ◌||◌, cond, false≢true}
 use mathlib.Core.List.{List, [], ◌∷◌, ◌++◌}
@@ -51,7 +51,7 @@ same_two s t ts h = record { named = λ i j. either (is_term i j t) (is_term i j
 same_next : (t : Term) {ts us : List Term} → SameTerms ts us → SameTerms (t ∷ ts) (t ∷ us)
 same_next t s = record { named = λ i j. simp s.named; given = λ i j. simp s.given }
 
--- ---- where the one text is well_formed, so is the other, with the same sheet and mode
+-- ---- where the one text is well-formed, so is the other, with the same sheet and mode
 abbrev Alike : Text → Text → Type 0
 Alike t u = (v : Said) → t ≡ well_formed v → SameSheet v u
 

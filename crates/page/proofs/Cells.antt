@@ -45,7 +45,7 @@ module _ (z : ℤ) (s K r : ℕ) (near : nat_abs z ≤ r) (far : nat_abs (z +ℤ
       below : (t : ℕ) → t ≤ K * 2 ^ s → (pos K *ℤ z +ℤ pos t) ≤ℤ (pos K *ℤ (z +ℤ pos (2 ^ s)))
       below t h = ≤ℤ_by (pos_mono h) (ring (pos K ∷ z ∷ pos (2 ^ s) ∷ pos t ∷ []) (λ k z n t. k ⊗ (z ⊕ n) ⊖ (k ⊗ z ⊕ t) ≐ k ⊗ n ⊖ t) tt)
 
--- ---- a cell's half_side and centre lie in the square
+-- ---- a cell's half-side and centre lie in the square
 module _ (S : Sheet) (j p : ℕ) (level : j ≤ S.k) (column : p < 2 ^ j) where
   abbrev H : ℕ
   H = half_side S j
@@ -71,7 +71,7 @@ module _ (S : Sheet) (j p : ℕ) (level : j ≤ S.k) (column : p < 2 ^ j) where
   pub cell_limit : (z : ℤ) (r : ℕ) → nat_abs z ≤ r → nat_abs (z +ℤ pos (2 ^ S.s)) ≤ r → nat_abs (pos (2 ^ (S.k + 1)) *ℤ z +ℤ pos ((2 * p + 1) * H)) + H ≤ 2 ^ (S.k + 1) * r
   cell_limit z r near far = interval_limit z S.s (2 ^ (S.k + 1)) r near far ((2 * p + 1) * H) H inside_low inside_high
 
--- ---- so the centre and the half_side are at most 2^(k+1) Rx across, and 2^(k+1) Ry along
+-- ---- so the centre and the half-side are at most 2^(k+1) Rx across, and 2^(k+1) Ry along
 module _ (S : Sheet) (j p q : ℕ) (c : IsCell S.k j p q) where
   pub limit_u : nat_abs (U0 S j p) + half_side S j ≤ 2 ^ (S.k + 1) * Rx S
   limit_u = cell_limit S j p c.level c.column S.X (Rx S) (omega arith) (omega arith)

@@ -18,7 +18,7 @@ use Rattle.page.specs.Bounds.{verdict}
 use Rattle.page.specs.Cover.{CutInFour, Holder, LevelsCover, CurveColoured, CurveCovered}
 use Rattle.page.proofs.Raster.{white_signed}
 
--- ---- a level further down the half_side is half as large
+-- ---- a level further down the half-side is half as large
 half_twice : (S : Sheet) (j : ℕ) → j < S.k → half_side S j ≡ 2 * half_side S (j + 1)
 half_twice S j h = let e : S.s + S.k - j ≡ 1 + (S.s + S.k - (j + 1)) = omega arith in ap (λ n. 2 ^ n) e ∙ pow-add 2 1 (S.s + S.k - (j + 1))
 

@@ -26,7 +26,7 @@ terms_are w i j h = in_order_at w.d (coefficient_of w.terms) i j h
 pub as_many_coefficients : AsManyCoefficients
 as_many_coefficients w = order_long w.d (coefficient_of w.terms)
 
--- ---- the rows of a well_formed text: 1, 3, 4, 5, 6
+-- ---- the rows of a well-formed text: 1, 3, 4, 5, 6
 rows_held : (a c d e f : Bool) → let n : ℕ = cond a 1 (cond c 3 (cond d 4 (cond e 5 (cond f 6 0)))) in (n ≤ 6) × (n ≡ 2 → ⊥)
 rows_held true c d e f = (omega arith, λ z. omega arith)
 rows_held false true d e f = (omega arith, λ z. omega arith)
@@ -79,7 +79,7 @@ unfolding outcome first
 read_table text = in_table (ltb 8_192 (length text)) (text_of (lines text)) (numbered (lines text))
 
 -- ---- which numbers reading gives
--- by the rows of a well_formed text: without a line or a field
+-- by the rows of a well-formed text: without a line or a field
 pub by_rows : (m : ℕ) (w : Said) {n line field : ℕ} → unless m (λ n. refused n 0 0) (accepted w) ≡ refused n line field → (n ≡ m) × (m ≡ 0 → ⊥) × (line ≡ 0) × (field ≡ 0)
 by_rows zero w e = let z : ◌≡◌ {A = ℕ} 0 1 = cc in absurd (omega arith)
 by_rows (suc m) w e = ((cc), λ z. omega arith, (cc), (cc))
@@ -120,7 +120,7 @@ pub fields_join : FieldsJoin
 unfolding fields
 fields_join bytes more = (joined 9 [] fields [] before_field (λ b bs. refl) (λ b p ps qs. refl) (λ b p ps. omega arith) refl bytes more).0 ∙ ap (λ l. fields l ++ fields more) (append-nil bytes)
 
--- ---- a well_formed text has each of the first four lines
+-- ---- a well-formed text has each of the first four lines
 pub four_lines : FourLines
 four_lines ls w e = subst (λ t. Walked ls t (text_of (ls ++ []))) e (text_walked ls [])
 

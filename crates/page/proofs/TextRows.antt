@@ -1,4 +1,4 @@
--- The refusal table's rows for a well_formed text.
+-- The refusal table's rows for a well-formed text.
 use mathlib.Core.Path.{◌≡◌, refl}
 use Prim.Native.Nat.{◌<◌}
 use borrow.Author.Tests.{lt-ltb}

@@ -15,7 +15,7 @@ use Rattle.page.proofs.TextWalk.{text_both}
 use Rattle.page.proofs.TermLines.{Admitted, term_line, place_of}
 
 module _ (i j : ℕ) (c : ℤ) where
-  -- the text, where it is well_formed, has the coefficient c at i, j
+  -- the text, where it is well-formed, has the coefficient c at i, j
   abbrev Gives : Text → Type 0
   Gives t = (v : Said) → t ≡ well_formed v → A (sheet_in v) i j ≡ c
 

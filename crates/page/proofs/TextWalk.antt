@@ -47,7 +47,7 @@ abbrev pub Ended : List Line → Type 0
 Ended [] = Unit {0}
 Ended (l ∷ ls) = (l.ended ≡ false → length ls ≡ 0) × Ended ls
 
--- a text that is well_formed, or bad only because its n-th line is missing
+-- a text that is well-formed, or bad only because its n-th line is missing
 abbrev MissingOnly : ℕ → Text → Type 0
 MissingOnly n t = (m : ℕ) (g : Fault) → t ≡ bad_line m g → (m ≡ n) × (g ≡ missing)
 

@@ -6,7 +6,7 @@ use Rattle.page.specs.Sheet.{Sheet}
 use Rattle.page.specs.Scaled.{IsCell, half_side, U0, V0, InCell, value_at}
 use Rattle.page.specs.Bounds.{verdict}
 
--- a cell that is cut has four parts, half as large: columns 2p to its left and 2p + 1 to its right, rows 2q below and 2q + 1 above. No half_side of 1 is halved for it
+-- a cell that is cut has four parts, half as large: columns 2p to its left and 2p + 1 to its right, rows 2q below and 2q + 1 above. No half-side of 1 is halved for it
 abbrev pub CutInFour : Type 0
 CutInFour = (S : Sheet) (j p q : ℕ) → j < S.k → let H = half_side S (j + 1) in
     (half_side S j ≡ 2 * H) × (U0 S (j + 1) (2 * p) ≡ U0 S j p -ℤ pos H) × (U0 S (j + 1) (2 * p + 1) ≡ U0 S j p +ℤ pos H)

@@ -39,7 +39,7 @@ Fits64 z = nat_abs z < 2 ^ 63
 
 -- every coordinate, every G, bound, bend and value F of one cell does
 pub record CellFits (S : Sheet) (mode : Mode) (j p q : ℕ) : Type 0 where
-  -- the half_side, the centre, the edges, and every whole-number point of the cell
+  -- the half-side, the centre, the edges, and every whole-number point of the cell
   pub half : Fits64 (pos (half_side S j))
   pub centre : Fits64 (U0 S j p) × Fits64 (V0 S j q)
   pub edges : AtCorners (U0 S j p) (V0 S j q) (half_side S j) (λ u v. Fits64 u × Fits64 v)

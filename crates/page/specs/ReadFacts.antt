@@ -20,7 +20,7 @@ abbrev pub TermGiven : Type 0
 TermGiven = (ls more : List Line) (l : Line) (v : Said) → 4 ≤ length ls → text_of (ls ++ (l ∷ more)) ≡ well_formed v →
     A (sheet_in v) (whole_at (worths l) 0) (whole_at (worths l) 1) ≡ number_at (worths l) 2
 
--- ---- reading never meets 2: a well_formed text has as many coefficients as its degree asks for
+-- ---- reading never meets 2: a well-formed text has as many coefficients as its degree asks for
 abbrev pub AsManyCoefficients : Type 0
 AsManyCoefficients = (w : Said) → length (sheet_in w).coefficients ≡ count w.d
 
@@ -72,11 +72,11 @@ LinesJoin = (text more : List ℕ) → lines (text ++ (10 ∷ more)) ≡ lines (
 abbrev pub FieldsJoin : Type 0
 FieldsJoin = (before more : List ℕ) → fields (before ++ (9 ∷ more)) ≡ fields before ++ fields more
 
--- a text in which one of the first four lines is missing is not well_formed
+-- a text in which one of the first four lines is missing is not well-formed
 abbrev pub FourLines : Type 0
 FourLines = (ls : List Line) (w : Said) → text_of ls ≡ well_formed w → 4 ≤ length ls
 
--- ---- terms may come in any order: two of them that stand side by side, after the first four lines, may be exchanged, and the text is well_formed as before, with the same sheet and mode
+-- ---- terms may come in any order: two of them that stand side by side, after the first four lines, may be exchanged, and the text is well-formed as before, with the same sheet and mode
 pub record SameSheet (v : Said) (t : Text) : Type 0 where
   pub said : Said
   pub well : t ≡ well_formed said

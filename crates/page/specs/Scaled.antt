@@ -18,7 +18,7 @@ pub record IsCell (k j p q : ℕ) : Type 0 where
   pub column : p < 2 ^ j
   pub row : q < 2 ^ j
 
--- its half_side H, and its centre U0 = 2^(k+1)·X + (2p+1)·H and V0 = 2^(k+1)·Y + (2q+1)·H
+-- its half-side H, and its centre U0 = 2^(k+1)·X + (2p+1)·H and V0 = 2^(k+1)·Y + (2q+1)·H
 abbrev pub half_side : Sheet → ℕ → ℕ
 half_side S j = 2 ^ (S.s + S.k - j)
 
@@ -29,7 +29,7 @@ abbrev pub V0 : Sheet → ℕ → ℕ → ℤ
 V0 S j q = pos (2 ^ (S.k + 1)) *ℤ S.Y +ℤ pos ((2 * q + 1) * half_side S j)
 
 -- ---- a point with fractional coordinates U = M/Q and V = N/Q. The page has Q at least 1; where a statement asks for that it says so
--- it lies in the cell when |M - Q·U0| and |N - Q·V0| are at most Q-as-H
+-- it lies in the cell when |M - Q·U0| and |N - Q·V0| are at most Q·H
 pub record InCell (S : Sheet) (j p q : ℕ) (M N : ℤ) (Q : ℕ) : Type 0 where
   pub across : nat_abs (M -ℤ pos Q *ℤ U0 S j p) ≤ Q * half_side S j
   pub along : nat_abs (N -ℤ pos Q *ℤ V0 S j q) ≤ Q * half_side S j

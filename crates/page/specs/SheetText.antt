@@ -32,7 +32,7 @@ abbrev pub coefficient_of : List Term → ℕ → ℕ → ℤ
 coefficient_of [] i j = pos 0
 coefficient_of (t ∷ ts) i j = cond (is_term i j t) t.coefficient (coefficient_of ts i j)
 
--- ---- what a well_formed text says
+-- ---- what a well-formed text says
 pub record Said : Type 0 where
   pub d : ℕ
   pub X : ℤ
@@ -42,7 +42,7 @@ pub record Said : Type 0 where
   pub mode : ℕ
   pub terms : List Term
 
--- a text is bad at a line, counted from 1, by that line's fault; or it is well_formed
+-- a text is bad at a line, counted from 1, by that line's fault; or it is well-formed
 pub data Text : Type 0 where
   bad_line : ℕ → Fault → Text
   well_formed : Said → Text
@@ -92,14 +92,14 @@ text_of ls =
     line_then 4 77 (unsigned ∷ []) ls (λ m ls.
     terms_from 5 (record { d = whole_at d 0; X = number_at b 0; Y = number_at b 1; s = whole_at b 2; k = whole_at k 0; mode = whole_at m 0; terms = [] }) ls))))
 
--- ---- the sheet of a well_formed text: a coefficient for each i + j at most d, in the order i = 0..d and within it j = 0..d-i
+-- ---- the sheet of a well-formed text: a coefficient for each i + j at most d, in the order i = 0..d and within it j = 0..d-i
 unfoldable pub in_order : ℕ → (ℕ → ℕ → ℤ) → List ℤ
 in_order d A = flat_map (λ i. map (A i) (0 ⋯ (d - i))) (0 ⋯ d)
 
 abbrev pub sheet_in : Said → Sheet
 sheet_in w = record { d = w.d; coefficients = in_order w.d (coefficient_of w.terms); X = w.X; Y = w.Y; s = w.s; k = w.k }
 
--- ranges of a well_formed text are judged by the table's rows 1, 3, 4, 5, 6: reading has no lent place, no cell and no point
+-- ranges of a well-formed text are judged by the table's rows 1, 3, 4, 5, 6: reading has no lent place, no cell and no point
 abbrev pub to_read : Said → Input
 to_read w = record { sheet = sheet_in w; mode = given w.mode; entries = not_given; question = nothing }
 

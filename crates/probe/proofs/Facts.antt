@@ -87,7 +87,7 @@ point_answered S j p q u v a k c =
     let s = rw (Nat.sub-zero, Nat.div-eq_of_lt k.column, Nat.div-eq_of_lt k.row) at (encloses S 0 j p q (omega arith) k.level u v 1 c) in
     point_rows S u v ∙ rest _ ((accepted_by_check S).0 a) ∙ rw ((square_is_cell S u v).1 s)
 
--- a corner is as far from the centre as the half_side
+-- a corner is as far from the centre as the half-side
 off_low : (u : ℤ) (h : ℕ) → nat_abs (u -ℤ pos h -ℤ pos 1 *ℤ u) ≤ 1 * h
 off_low u h = let n = nat_abs_neg_ℤ (pos h) in rw (ring (u ∷ pos h ∷ []) (λ u h. u ⊖ h ⊖ # 1 ⊗ u ≐ ⊝ h) tt) (omega arith)
 

@@ -1,4 +1,4 @@
--- A well_formed text judged: the gathered coefficients are those of its terms, and the call's number is the text's.
+-- A well-formed text judged: the gathered coefficients are those of its terms, and the call's number is the text's.
 use mathlib.Core.Path.{◌≡◌, sym, ◌∙◌, ap}
 use mathlib.Core.List.{List, ◌++◌}
 use Prim.Native.Nat.{ℕ, ◌-◌, ◌≤◌}

@@ -1,4 +1,4 @@
-// A well_formed text: its coefficients in the page's order, and its ranges.
+// A well-formed text: its coefficients in the page's order, and its ranges.
 ghost use Rattle.std.specs.Prelude.{◌≡◌, map, ◌+◌, ◌≤◌, ◌<◌, length};
 ghost use Rattle.std.proofs.lemmas.List.Edits.{sets};
 ghost use Rattle.algebra.specs.Sum.{◌⋯◌};
@@ -54,7 +54,7 @@ pub fn refused(number: u32, line: u32, field: u32) -> Reading
     }
 }
 
-// The sheet of a well_formed text, judged by 1, 3, 4, 5, 6.
+// The sheet of a well-formed text, judged by 1, 3, 4, 5, 6.
 pub fn judged(head: Head, values: &[i32]) -> Reading
     requires { length values.now ≡ 81 }
     ensures { Judged head values.now result }

@@ -27,6 +27,3 @@ shape_of-place c = search rules
 pub returns : goal.returns
 unfolding head_text
 returns c = rw append_assoc at (put_two c.put_word-first.ensures (put_two c.put_field-second.ensures c.put_field.ensures))
-
--- slice-aggregate-put-word : tie.Need-slice-aggregate-put-word
--- slice-aggregate-put-word c = search rules

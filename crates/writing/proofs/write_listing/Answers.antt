@@ -20,6 +20,3 @@ shape_of-place c = search rules
 pub returns : goal.returns
 unfolding total_line
 returns c = put_two c.put_records-end.ensures.0 c.put_line.ensures
-
--- slice-aggregate-put-line-2 : tie.Need-slice-aggregate-put-line-2
--- slice-aggregate-put-line-2 c = search rules

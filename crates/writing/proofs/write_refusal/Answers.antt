@@ -15,6 +15,3 @@ shape_of-place c = search rules
 pub returns : goal.returns
 unfolding refused_line
 returns c = c.put_line.ensures
-
--- slice-aggregate-put-line-2 : tie.Need-slice-aggregate-put-line-2
--- slice-aggregate-put-line-2 c = search rules

@@ -1,4 +1,4 @@
--- `cells::cell::cell_form` meets its contract: the scaled coefficients, moved to the centre, each place times its power of the half_side.
+-- `cells::cell::cell_form` meets its contract: the scaled coefficients, moved to the centre, each place times its power of the half-side.
 use mathlib.Core.Path.{◌≡◌, ◌∙◌}
 use native.Mathlib.Omega.{arith}
 use lib.IntN.{pos}
