@@ -43,7 +43,9 @@ def named(path):
 
 
 def sources():
-    return sorted(p for p in ROOT.glob("crates/**/*") if p.suffix in (".antt", ".rt") and p.is_file())
+    """All but what rt made, which lies in the folders out."""
+    found = (p for p in ROOT.glob("crates/**/*") if p.suffix in (".antt", ".rt") and p.relative_to(ROOT).parts[2] != "out")
+    return sorted(p for p in found if p.is_file())
 
 
 def crates():

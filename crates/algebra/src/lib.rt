@@ -1,1 +1,3 @@
 // Exact whole-number algebra: definitions in specs/, their laws in proofs/. No code.
+
+#![tactic(auto)]

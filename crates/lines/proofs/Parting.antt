@@ -111,7 +111,7 @@ module _ {c : ℕ} {l : List ℕ} {from at : ℕ} (s : Seeking c l from at) wher
   seeking_next h n =
       let e : suc at ≡ at + 1 = omega arith in
       let z : index_of c (drop at l) ≡ suc (index_of c (drop (at + 1) l)) =
-          ap (index_of c) (drop-cons l at 0 h) ∙ index_on c (get_or l at 0) (drop (suc at) l) (ne_eqb (get_or l at 0) c n) ∙ ap (λ m. suc (index_of c (drop m l))) e in
+      ap (index_of c) (drop-cons l at 0 h) ∙ index_on c (get_or l at 0) (drop (suc at) l) (ne_eqb (get_or l at 0) c n) ∙ ap (λ m. suc (index_of c (drop m l))) e in
       let p = s.passed in let b = s.begun in record { begun = omega arith; inside = omega arith; passed = omega arith }
 
   pub seeking_end : length l ≤ at → Finds c l from at

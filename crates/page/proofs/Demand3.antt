@@ -27,7 +27,7 @@ use Rattle.verdicts.proofs.Judging.{judged_bend}
 use Rattle.page.specs.Sheet.{Sheet, A}
 use Rattle.page.specs.Scaled.{F, IsCell, InCell, half_side, U0, V0}
 use Rattle.page.specs.Bounds.{lower, upper, bend, verdict}
-use Rattle.page.specs.Weight.{Rx, Ry, weight, Accepted}
+use Rattle.page.specs.Weight.{Rx, Ry, Accepted}
 use Rattle.page.specs.Demand3.{Contained, NoOvershoot, OneSign, OpenMeets, Fits64, CellFits, AllFit}
 use Rattle.page.proofs.Cells.{limit_u, limit_v}
 use Rattle.page.proofs.Weights.{limits, limits_small, weight_is}

@@ -1,12 +1,11 @@
 -- `scanning::depth_of` meets its contract: the depths are tried in turn.
 use mathlib.Core.Path.{◌≡◌, sym, ◌∙◌, ap}
-use mathlib.Core.Logic.{inl, inr}
-use Prim.Native.Nat.{◌*◌, ◌-◌, ◌%◌, ◌^◌}
+use Prim.Native.Nat.{◌*◌, ◌%◌, ◌^◌}
 use native.Mathlib.Omega.{arith}
 use lib.Dec.{eqb}
 use borrow.Author.Tests.{ne_eqb}
 use Rattle.numbers.proofs.Ceiling.{one_shifted}
-use Rattle.scanning.proofs.Depths.{Trying, trying_start, trying_found, trying_next, trying_end, no_width, no_height}
+use Rattle.scanning.proofs.Depths.{trying_start, trying_found, trying_next, trying_end, no_width, no_height}
 use Rattle.scanning.proofs.depth_of.Goals as goal
 use Rattle.scanning.proofs.depth_of.Goals.{else-width-side-via-then-width-side+else-height-side, else-width-side-via-else-width-side}
 

@@ -1,8 +1,6 @@
 -- `weight::row_weight` meets its contract: the terms are added from the first on, beside a running power, all under the ceiling.
-use Prim.Native.Nat.{◌+◌, ◌-◌}
 use native.Mathlib.Omega.{arith}
-use Rattle.weight.specs.Series.{sizes}
-use Rattle.weight.proofs.Series.{Adding, adding_start, adding_next, adding_end}
+use Rattle.weight.proofs.Series.{adding_start, adding_next, adding_end}
 use Rattle.weight.proofs.row_weight.Goals as goal
 
 pub loop-j-init : goal.loop-j-init

@@ -1,7 +1,6 @@
 use Prim.Native.Nat.{◌+◌, ◌-◌}
-use native.Mathlib.Omega.{arith}
 use Rattle.weight.specs.Series.{sizes}
-use Rattle.weight.proofs.Series.{Adding, adding_start, adding_next, adding_end}
+use Rattle.weight.proofs.Series.{Adding}
 use Rattle.weight.proofs.row_weight.Given as goal
 
 abbrev pub invariant-loop-j : goal.invariant-loop-j

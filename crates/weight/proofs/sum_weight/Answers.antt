@@ -2,7 +2,7 @@
 use Prim.Native.Nat.{◌+◌, ◌-◌, ◌<◌}
 use native.Mathlib.Omega.{arith}
 use lib.ListN.{length}
-use Rattle.weight.proofs.Rows.{Rows, rows_start, rows_inside, rows_next, rows_end}
+use Rattle.weight.proofs.Rows.{rows_start, rows_inside, rows_next, rows_end}
 use Rattle.weight.proofs.sum_weight.Goals as goal
 
 pub loop-i-init : goal.loop-i-init

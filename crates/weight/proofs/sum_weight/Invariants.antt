@@ -1,7 +1,5 @@
-use Prim.Native.Nat.{◌+◌, ◌-◌, ◌<◌}
-use native.Mathlib.Omega.{arith}
-use lib.ListN.{length}
-use Rattle.weight.proofs.Rows.{Rows, rows_start, rows_inside, rows_next, rows_end}
+use Prim.Native.Nat.{◌+◌, ◌-◌}
+use Rattle.weight.proofs.Rows.{Rows}
 use Rattle.weight.proofs.sum_weight.Given as goal
 
 abbrev pub invariant-loop-i : goal.invariant-loop-i

@@ -1,15 +1,13 @@
 -- `cells::scale::wide_places` meets its contract: place by place, each from its own coefficient.
 use mathlib.Core.Path.{◌≡◌, ◌∙◌}
-use Prim.Native.Nat.{◌-◌, ◌≤◌}
 use native.Mathlib.Omega.{arith}
 use borrow.Author.Rules.{rules}
-use lib.ListN.{length}
 use mir.Syntax.{w32, w64}
 use mir.Val.{to_z, of_z}
 use mir.Facts.{to_z-of_z}
 use Rattle.tables.specs.Table.{at}
 use Rattle.numbers.proofs.Machine.{read64}
-use Rattle.cells.proofs.Widening.{Widening, widening_start, widening_next, widening_end}
+use Rattle.cells.proofs.Widening.{widening_start, widening_next, widening_end}
 use Rattle.cells.proofs.scale.wide_places.Goals as goal
 
 pub loop-at-init : goal.loop-at-init

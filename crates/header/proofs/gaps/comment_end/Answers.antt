@@ -1,9 +1,7 @@
 -- `header::gaps::comment_end` meets its contract: byte by byte, until one ends the comment.
-use Prim.Native.Nat.{◌-◌}
 use native.Mathlib.Omega.{arith}
 use borrow.Author.Rules.{rules}
-use lib.ListN.{length}
-use Rattle.header.proofs.Passing.{Commenting, commenting_start, commenting_next, commenting_stop, commenting_end}
+use Rattle.header.proofs.Passing.{commenting_start, commenting_next, commenting_stop, commenting_end}
 use Rattle.header.proofs.gaps.comment_end.Goals as goal
 
 pub loop-i-init : goal.loop-i-init

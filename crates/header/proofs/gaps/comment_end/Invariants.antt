@@ -1,8 +1,6 @@
 use Prim.Native.Nat.{◌-◌}
-use native.Mathlib.Omega.{arith}
-use borrow.Author.Rules.{rules}
 use lib.ListN.{length}
-use Rattle.header.proofs.Passing.{Commenting, commenting_start, commenting_next, commenting_stop, commenting_end}
+use Rattle.header.proofs.Passing.{Commenting}
 use Rattle.header.proofs.gaps.comment_end.Given as goal
 
 abbrev pub invariant-loop-i : goal.invariant-loop-i

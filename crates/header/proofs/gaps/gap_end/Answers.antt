@@ -1,10 +1,7 @@
 -- `header::gaps::gap_end` meets its contract: byte by byte, until one does not belong to the gap.
-use Prim.Native.Nat.{◌-◌}
 use native.Mathlib.Omega.{arith}
 use borrow.Author.Rules.{rules}
-use borrow.Author.Tests.{not-true, not-false}
-use lib.ListN.{length}
-use Rattle.header.proofs.Passing.{Passing, passing_start, passing_next, passing_stop, passing_end}
+use Rattle.header.proofs.Passing.{passing_start, passing_next, passing_stop, passing_end}
 use Rattle.header.proofs.gaps.gap_end.Goals as goal
 
 pub loop-i-init : goal.loop-i-init

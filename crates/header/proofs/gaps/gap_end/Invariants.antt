@@ -1,9 +1,6 @@
 use Prim.Native.Nat.{◌-◌}
-use native.Mathlib.Omega.{arith}
-use borrow.Author.Rules.{rules}
-use borrow.Author.Tests.{not-true, not-false}
 use lib.ListN.{length}
-use Rattle.header.proofs.Passing.{Passing, passing_start, passing_next, passing_stop, passing_end}
+use Rattle.header.proofs.Passing.{Passing}
 use Rattle.header.proofs.gaps.gap_end.Given as goal
 
 abbrev pub invariant-loop-i : goal.invariant-loop-i

@@ -1,9 +1,8 @@
 -- `header::sizes::capped_amount` meets its contract: the ceiling is put in at each digit.
-use Prim.Native.Nat.{◌-◌, ◌^◌}
+use Prim.Native.Nat.{◌^◌}
 use native.Mathlib.Omega.{arith}
 use borrow.Author.Rules.{rules}
-use lib.ListN.{length}
-use Rattle.page.proofs.Amounts.{Adding, adding_start, adding_digit, adding_next, adding_end}
+use Rattle.page.proofs.Amounts.{adding_start, adding_digit, adding_next, adding_end}
 use Rattle.header.proofs.sizes.capped_amount.Goals as goal
 
 pub loop-i-init : goal.loop-i-init

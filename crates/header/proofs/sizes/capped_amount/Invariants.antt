@@ -1,8 +1,6 @@
 use Prim.Native.Nat.{◌-◌, ◌^◌}
-use native.Mathlib.Omega.{arith}
-use borrow.Author.Rules.{rules}
 use lib.ListN.{length}
-use Rattle.page.proofs.Amounts.{Adding, adding_start, adding_digit, adding_next, adding_end}
+use Rattle.page.proofs.Amounts.{Adding}
 use Rattle.header.proofs.sizes.capped_amount.Given as goal
 
 abbrev pub invariant-loop-i : goal.invariant-loop-i

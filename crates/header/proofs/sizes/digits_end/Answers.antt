@@ -1,10 +1,7 @@
 -- `header::sizes::digits_end` meets its contract: byte by byte, until one is no digit.
-use Prim.Native.Nat.{◌-◌}
 use native.Mathlib.Omega.{arith}
 use borrow.Author.Rules.{rules}
-use borrow.Author.Tests.{not-true, not-false}
-use lib.ListN.{length}
-use Rattle.header.proofs.Sizing.{Digiting, digiting_start, digiting_next, digiting_stop, digiting_end}
+use Rattle.header.proofs.Sizing.{digiting_start, digiting_next, digiting_stop, digiting_end}
 use Rattle.header.proofs.sizes.digits_end.Goals as goal
 
 pub loop-i-init : goal.loop-i-init

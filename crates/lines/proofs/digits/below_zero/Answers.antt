@@ -1,7 +1,7 @@
 -- `lines::digits::below_zero` meets its contract, by the tests.
 use mathlib.Core.Path.{ap}
 use native.Mathlib.Omega.{arith}
-use borrow.Author.Tests.{ne_eqb, lt-ltb, le-ltb, not-true, not-false}
+use borrow.Author.Tests.{ne_eqb, lt-ltb, le-ltb}
 use Rattle.lines.specs.declared.Number.TheVariants.{Whole}
 use Rattle.lines.proofs.Numerals.{minus_zero, turned}
 use borrow.Author.Rules.{rules}

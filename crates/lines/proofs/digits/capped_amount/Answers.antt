@@ -3,8 +3,7 @@ use mathlib.Core.Path.{◌∙◌, ap}
 use Prim.Native.Nat.{◌+◌, ◌*◌, ◌-◌, ◌^◌, min}
 use native.Mathlib.Omega.{arith}
 use borrow.Author.Rules.{rules}
-use lib.ListN.{length}
-use Rattle.page.proofs.Amounts.{Adding, adding_start, adding_digit, adding_next, adding_end}
+use Rattle.page.proofs.Amounts.{adding_start, adding_digit, adding_next, adding_end}
 use Rattle.lines.proofs.digits.capped_amount.Goals as goal
 
 pub loop-i-init : goal.loop-i-init

@@ -1,9 +1,6 @@
-use mathlib.Core.Path.{◌∙◌, ap}
-use Prim.Native.Nat.{◌+◌, ◌*◌, ◌-◌, ◌^◌, min}
-use native.Mathlib.Omega.{arith}
-use borrow.Author.Rules.{rules}
+use Prim.Native.Nat.{◌-◌, ◌^◌}
 use lib.ListN.{length}
-use Rattle.page.proofs.Amounts.{Adding, adding_start, adding_digit, adding_next, adding_end}
+use Rattle.page.proofs.Amounts.{Adding}
 use Rattle.lines.proofs.digits.capped_amount.Given as goal
 
 abbrev pub invariant-loop-i : goal.invariant-loop-i

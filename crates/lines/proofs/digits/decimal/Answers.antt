@@ -1,6 +1,5 @@
 -- `lines::digits::decimal` meets its contract, by the tests.
 use mathlib.Core.Path.{◌∙◌}
-use mathlib.Core.Logic.{inl, inr}
 use native.Mathlib.Omega.{arith}
 use Rattle.lines.proofs.Numerals.{no_digits, leading_zero, no_leading_zero}
 use borrow.Author.Rules.{rules}

@@ -1,13 +1,8 @@
 -- `lines::digits::digits_only` meets its contract: byte by byte, until one is no digit.
 use native.Mathlib.Omega.{arith}
 use borrow.Author.Rules.{rules}
-use borrow.Author.Tests.{not-true, not-false}
 use mathlib.Core.Path.{refl}
 use Rattle.lines.proofs.Numerals.{all_found, all_next, all_end}
-use mathlib.Core.Path.{◌≡◌}
-use Prim.Native.Nat.{◌≤◌, ◌-◌}
-use lib.ListN.{length, drop}
-use Rattle.page.specs.SheetLine.{all_digits}
 use Rattle.lines.proofs.digits.digits_only.Goals as goal
 
 pub loop-i-init : goal.loop-i-init

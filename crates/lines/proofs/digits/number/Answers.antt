@@ -1,6 +1,5 @@
 -- `lines::digits::number` meets its contract: by its one byte, or by the sign and the digits.
 use mathlib.Core.Path.{◌∙◌}
-use borrow.Author.Tests.{not-true, not-false}
 use Rattle.lines.proofs.Numerals.{one_byte, Split, split_fits, split_none, split_all, split_minus, split_signless}
 use borrow.Author.Rules.{rules}
 use Rattle.lines.proofs.digits.number.Goals as goal

@@ -6,7 +6,6 @@ use native.Mathlib.Omega.{arith}
 use mir.Syntax.{w32}
 use mir.Facts.{to_z_pos}
 use borrow.Author.Rules.{rules}
-use borrow.Author.Tests.{not-true, not-false}
 use Rattle.page.specs.SheetLine.{is_digit}
 use Rattle.lines.proofs.Numerals.{digit_range}
 use Rattle.lines.proofs.digits.single.Goals as goal

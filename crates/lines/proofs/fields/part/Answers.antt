@@ -1,10 +1,9 @@
 -- `lines::fields::part` meets its contract: tab by tab.
-use Prim.Native.Nat.{◌-◌, ◌+◌}
+use Prim.Native.Nat.{◌+◌}
 use native.Mathlib.Omega.{arith}
 use borrow.Author.Rules.{rules}
-use lib.ListN.{length}
 use Rattle.lines.specs.Steps.{Finds}
-use Rattle.lines.proofs.Ending.{Ending, ending_start, ending_next, ending_end, ending_more}
+use Rattle.lines.proofs.Ending.{ending_start, ending_next, ending_end, ending_more}
 use Rattle.lines.proofs.fields.part.Goals as goal
 
 pub find-at-requires : goal.find-at-requires

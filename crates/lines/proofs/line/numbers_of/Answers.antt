@@ -2,19 +2,18 @@
 use mathlib.Core.Path.{◌≡◌, sym, ◌∙◌, ap, ap₂}
 use mathlib.Core.Bool.{true, false}
 use mathlib.Core.List.{[]}
-use Prim.Native.Nat.{◌+◌, ◌-◌, ◌<◌, min}
+use Prim.Native.Nat.{◌+◌, ◌<◌, min}
 use native.Mathlib.Omega.{arith}
 use borrow.Author.Rules.{rules}
 use lib.ListN.{length, get_or, take, length-take}
 use lib.Seq.{length-take-le, get_or-take}
 use Rattle.page.specs.SheetLine.{fields, is_letter}
-use Rattle.lines.specs.declared.Number.{Number}
 use Rattle.lines.specs.declared.Number.TheVariants.{Whole}
-use Rattle.lines.specs.Steps.{number_in, Stands, LineRead, fault_after}
+use Rattle.lines.specs.Steps.{number_in, Stands}
 use mir.Syntax.{w32}
 use mir.Val.{to_z, of_z}
 use Rattle.lines.proofs.Ending.{numbers_in, letter_stands, letter_bytes, numbers_count, number_stands, number_bytes}
-use Rattle.lines.proofs.Counting.{fault_of, Reading, reading_start, reading_next, line_fault, line_read, opened_faulty, opened_right}
+use Rattle.lines.proofs.Counting.{fault_of, reading_start, reading_next, line_fault, line_read, opened_faulty, opened_right}
 use Rattle.lines.proofs.line.numbers_of.Goals as goal
 
 pub part-parted-requires : goal.part-parted-requires

@@ -1,6 +1,6 @@
 -- `lines::line::opening` meets its contract, by the tests.
 use native.Mathlib.Omega.{arith}
-use borrow.Author.Tests.{eq-eqb, ne_eqb, not-true, not-false}
+use borrow.Author.Tests.{eq-eqb, ne_eqb}
 use Rattle.lines.proofs.line.opening.Goals as goal
 
 pub returns-then-not-right : goal.returns-then-not-right

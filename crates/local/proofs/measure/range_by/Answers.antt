@@ -23,7 +23,7 @@ module _ {d : ℕ} {places : List ℤ} (one : 1 ≤ d) (light : Light d places) 
   small : (n : ℕ) → total - n ≤ sizes_of places (count d)
   small n = let e = total_is in omega arith
 
--- ---- the fall and the rise: the sizes less what is spared
+  -- ---- the fall and the rise: the sizes less what is spared
   module _ (mode : ℕ) {spare : Spare} (spare_is : spare ≡ spare_in mode places d) (given : mag (at places 0) < 2 ^ 63) where
     centre_read : to_z w64 (of_z w64 (at places 0)) ≡ at places 0
     centre_read = read64 (at places 0) given
@@ -37,6 +37,7 @@ module _ {d : ℕ} {places : List ℤ} (one : 1 ≤ d) (light : Light d places) 
     upper_read =
         rw (centre_read, step_read one light (small spare.rise), to_z-of_z (plus_fits one light (small spare.rise)))
         (upper_is one light mode total_is spare_is)
+
 pub overflow_add-d : goal.overflow_add-d
 overflow_add-d c = search rules
 

@@ -1,11 +1,10 @@
 -- `local::sizes::sizes` meets its contract: the sizes of the places that the loop has passed are added up.
 use mathlib.Core.Path.{◌≡◌, refl, ◌∙◌, ap}
-use Prim.Native.Nat.{◌-◌}
 use native.Mathlib.Omega.{arith}
 use lib.IntN.{nat_abs}
 use Rattle.numbers.proofs.Machine.{read64}
 use Rattle.tables.specs.Table.{at}
-use Rattle.local.proofs.Sums.{Added, added_start, added_room, added_next, added_end}
+use Rattle.local.proofs.Sums.{added_start, added_room, added_next, added_end}
 use Rattle.local.proofs.sizes.sizes.Goals as goal
 
 pub loop-at-init : goal.loop-at-init

@@ -1,10 +1,7 @@
-use mathlib.Core.Path.{◌≡◌, refl, ◌∙◌, ap}
 use Prim.Native.Nat.{◌-◌}
-use native.Mathlib.Omega.{arith}
 use lib.IntN.{nat_abs}
-use Rattle.numbers.proofs.Machine.{read64}
 use Rattle.tables.specs.Table.{at}
-use Rattle.local.proofs.Sums.{Added, added_start, added_room, added_next, added_end}
+use Rattle.local.proofs.Sums.{Added}
 use Rattle.local.proofs.sizes.sizes.Given as goal
 
 abbrev pub invariant-loop-at : goal.invariant-loop-at

@@ -1,11 +1,10 @@
 -- `local::sizes::spared` meets its contract: what the even rows spare that the loop has passed is added up.
 use mathlib.Core.Path.{◌≡◌, sym}
-use Prim.Native.Nat.{◌+◌, ◌-◌, ◌≤◌}
+use Prim.Native.Nat.{◌-◌}
 use native.Mathlib.Omega.{arith}
-use Rattle.algebra.specs.Triangle.{row_start}
 use Rattle.algebra.proofs.Places.{row_start_zero}
 use Rattle.local.specs.Range.{above_zero, below_zero, RowSparable}
-use Rattle.local.proofs.Sums.{Pair, pair_first, pair_left, pair_right, pair_next, pair_end}
+use Rattle.local.proofs.Sums.{pair_first, pair_left, pair_right, pair_next, pair_end}
 use Rattle.local.proofs.Sparing.{rows, rows_only, row_spared, rows_le, light_row, row_start_two, above_le, below_le}
 use Rattle.local.proofs.sizes.spared.Goals as goal
 

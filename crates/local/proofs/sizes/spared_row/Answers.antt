@@ -1,6 +1,5 @@
 -- `local::sizes::spared_row` meets its contract: the even places that the loop has passed are added up.
 use mathlib.Core.Path.{◌≡◌, ◌∙◌, ap}
-use Prim.Native.Nat.{◌+◌, ◌-◌, ◌≤◌}
 use native.Mathlib.Omega.{arith}
 use lib.IntN.{nat_abs}
 use Rattle.numbers.proofs.Machine.{read64}
@@ -8,7 +7,7 @@ use Rattle.algebra.proofs.Sum.{sumℕ_member}
 use Rattle.algebra.proofs.Run.{member_⋯}
 use Rattle.tables.specs.Table.{row_of}
 use Rattle.local.specs.Range.{above_zero, below_zero}
-use Rattle.local.proofs.Sums.{Pair, pair_from, pair_left, pair_right, pair_next, pair_end}
+use Rattle.local.proofs.Sums.{pair_from, pair_left, pair_right, pair_next, pair_end}
 use Rattle.local.proofs.Sparing.{evens, evens_before, evens_at, evens_only, evens_le, above_le, below_le}
 use Rattle.local.proofs.sizes.spared_row.Goals as goal
 

@@ -6,7 +6,7 @@ use native.Mathlib.Omega.{arith}
 use lib.ListN.{length}
 use lib.Pow.{pow_mono}
 use Rattle.algebra.proofs.Power.{*_pow}
-use Rattle.marks.proofs.Blocks.{columns_end, rows_end, Filling, filling_start, filling_next, filling_end}
+use Rattle.marks.proofs.Blocks.{columns_end, rows_end, filling_start, filling_next, filling_end}
 use Rattle.marks.proofs.paint.paint_block.Goals as goal
 
 -- what is known of the sides, before the loop

@@ -1,7 +1,6 @@
 -- `marks::paint::paint_run` meets its contract.
-use Prim.Native.Nat.{◌-◌}
 use native.Mathlib.Omega.{arith}
-use Rattle.marks.proofs.Runs.{Running, running_start, running_next, running_end}
+use Rattle.marks.proofs.Runs.{running_start, running_next, running_end}
 use Rattle.marks.proofs.paint.paint_run.Goals as goal
 
 pub loop-i-init : goal.loop-i-init

@@ -1,6 +1,5 @@
 use Prim.Native.Nat.{◌-◌}
-use native.Mathlib.Omega.{arith}
-use Rattle.marks.proofs.Runs.{Running, running_start, running_next, running_end}
+use Rattle.marks.proofs.Runs.{Running}
 use Rattle.marks.proofs.paint.paint_run.Given as goal
 
 abbrev pub invariant-loop-i : goal.invariant-loop-i

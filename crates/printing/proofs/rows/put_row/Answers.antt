@@ -1,9 +1,7 @@
 -- `printing::rows::put_row` meets its contract.
-use Prim.Native.Nat.{◌-◌}
 use native.Mathlib.Omega.{arith}
-use Rattle.algebra.specs.Sum.{span}
-use Rattle.writing.proofs.Puts.{Putting, putting_start, put_length}
-use Rattle.pbm.specs.Writing.{digit_text, row_text}
+use Rattle.writing.proofs.Puts.{putting_start, put_length}
+use Rattle.pbm.specs.Writing.{row_text}
 use Rattle.printing.proofs.Numbered.{numbered_room, numbered_next, numbered_end}
 use Rattle.printing.proofs.rows.put_row.Goals as goal
 

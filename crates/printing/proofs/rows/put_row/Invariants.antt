@@ -1,9 +1,7 @@
 use Prim.Native.Nat.{◌-◌}
-use native.Mathlib.Omega.{arith}
 use Rattle.algebra.specs.Sum.{span}
-use Rattle.writing.proofs.Puts.{Putting, putting_start, put_length}
-use Rattle.pbm.specs.Writing.{digit_text, row_text}
-use Rattle.printing.proofs.Numbered.{numbered_room, numbered_next, numbered_end}
+use Rattle.writing.proofs.Puts.{Putting}
+use Rattle.pbm.specs.Writing.{digit_text}
 use Rattle.printing.proofs.rows.put_row.Given as goal
 
 abbrev pub invariant-loop-p : goal.invariant-loop-p

@@ -1,11 +1,7 @@
 use Prim.Native.Nat.{◌-◌}
-use native.Mathlib.Omega.{arith}
 use Rattle.algebra.specs.Sum.{span}
-use Rattle.writing.proofs.Puts.{Putting, putting_start, put_length}
-use Rattle.pbm.specs.Writing.{row_text, rows_text}
-use Rattle.printing.proofs.Squares.{row_within}
-use Rattle.printing.proofs.Columns.{row_room}
-use Rattle.printing.proofs.Numbered.{numbered_room, numbered_next, numbered_end}
+use Rattle.writing.proofs.Puts.{Putting}
+use Rattle.pbm.specs.Writing.{row_text}
 use Rattle.printing.proofs.rows.put_rows.Given as goal
 
 abbrev pub invariant-loop-n : goal.invariant-loop-n

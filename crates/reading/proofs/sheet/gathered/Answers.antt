@@ -3,7 +3,7 @@ use mathlib.Core.Path.{◌≡◌}
 use Prim.Native.Nat.{◌+◌, ◌-◌, ◌<◌}
 use native.Mathlib.Omega.{arith}
 use lib.ListN.{length}
-use Rattle.reading.proofs.Gathering.{Gathering, gathering_start, gathering_room, gathering_next, gathering_end}
+use Rattle.reading.proofs.Gathering.{gathering_start, gathering_room, gathering_next, gathering_end}
 use Rattle.reading.proofs.sheet.gathered.Goals as goal
 
 pub loop-i-init : goal.loop-i-init

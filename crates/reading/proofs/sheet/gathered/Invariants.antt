@@ -1,8 +1,5 @@
-use mathlib.Core.Path.{◌≡◌}
-use Prim.Native.Nat.{◌+◌, ◌-◌, ◌<◌}
-use native.Mathlib.Omega.{arith}
-use lib.ListN.{length}
-use Rattle.reading.proofs.Gathering.{Gathering, gathering_start, gathering_room, gathering_next, gathering_end}
+use Prim.Native.Nat.{◌+◌, ◌-◌}
+use Rattle.reading.proofs.Gathering.{Gathering}
 use Rattle.reading.proofs.sheet.gathered.Given as goal
 
 abbrev pub invariant-loop-i : goal.invariant-loop-i

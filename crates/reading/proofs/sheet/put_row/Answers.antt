@@ -1,9 +1,8 @@
 -- `sheet::put_row` meets its contract: place by place, each from its own entry of the table.
-use Prim.Native.Nat.{◌+◌, ◌-◌}
 use native.Mathlib.Omega.{arith}
 use mir.Syntax.{w32}
 use mir.Facts.{to_z-of_z}
-use Rattle.reading.proofs.Gathering.{Putting, putting_start, putting_next, putting_end}
+use Rattle.reading.proofs.Gathering.{putting_start, putting_next, putting_end}
 use Rattle.reading.proofs.sheet.put_row.Goals as goal
 
 pub loop-j-init : goal.loop-j-init

@@ -1,7 +1,5 @@
 use Prim.Native.Nat.{◌+◌, ◌-◌}
-use native.Mathlib.Omega.{arith}
-use mir.Facts.{to_z-of_z}
-use Rattle.reading.proofs.Gathering.{Putting, putting_start, putting_next, putting_end}
+use Rattle.reading.proofs.Gathering.{Putting}
 use Rattle.reading.proofs.sheet.put_row.Given as goal
 
 abbrev pub invariant-loop-j : goal.invariant-loop-j

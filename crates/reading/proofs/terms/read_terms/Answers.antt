@@ -1,9 +1,7 @@
 -- `reading::terms::read_terms` meets its contract, line after line.
-use Prim.Native.Nat.{◌-◌}
 use native.Mathlib.Omega.{arith}
 use borrow.Author.Rules.{rules}
-use lib.ListN.{length}
-use Rattle.reading.proofs.Naming.{Naming, naming_start, naming_next, naming_bad, naming_end}
+use Rattle.reading.proofs.Naming.{naming_start, naming_next, naming_bad, naming_end}
 use Rattle.reading.proofs.terms.read_terms.Goals as goal
 
 pub loop-at-init : goal.loop-at-init

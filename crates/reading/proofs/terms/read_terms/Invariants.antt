@@ -1,8 +1,6 @@
 use Prim.Native.Nat.{◌-◌}
-use native.Mathlib.Omega.{arith}
-use borrow.Author.Rules.{rules}
 use lib.ListN.{length}
-use Rattle.reading.proofs.Naming.{Naming, naming_start, naming_next, naming_bad, naming_end}
+use Rattle.reading.proofs.Naming.{Naming}
 use Rattle.reading.proofs.terms.read_terms.Given as goal
 
 abbrev pub invariant-loop-at : goal.invariant-loop-at

@@ -1,11 +1,9 @@
 -- `scanning::digits::take_data` meets its contract: byte by byte, until all digits are taken.
 use mathlib.Core.Path.{refl}
-use Prim.Native.Nat.{◌-◌}
 use native.Mathlib.Omega.{arith}
-use borrow.Author.Tests.{not-true, not-false}
-use lib.ListN.{length, get_or}
+use lib.ListN.{get_or}
 use Rattle.pbm.specs.Reading.{is_bit}
-use Rattle.scanning.proofs.Taking.{one_at_most, Taking, taking_start, taking_none, taking_other, taking_next, taking_end}
+use Rattle.scanning.proofs.Taking.{one_at_most, taking_start, taking_none, taking_other, taking_next, taking_end}
 use Rattle.scanning.proofs.digits.take_data.Goals as goal
 
 pub loop-left-init : goal.loop-left-init

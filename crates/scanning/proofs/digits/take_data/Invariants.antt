@@ -1,10 +1,6 @@
-use mathlib.Core.Path.{refl}
 use Prim.Native.Nat.{◌-◌}
-use native.Mathlib.Omega.{arith}
-use borrow.Author.Tests.{not-true, not-false}
-use lib.ListN.{length, get_or}
-use Rattle.pbm.specs.Reading.{is_bit}
-use Rattle.scanning.proofs.Taking.{one_at_most, Taking, taking_start, taking_none, taking_other, taking_next, taking_end}
+use lib.ListN.{length}
+use Rattle.scanning.proofs.Taking.{Taking}
 use Rattle.scanning.proofs.digits.take_data.Given as goal
 
 abbrev pub invariant-loop-left : goal.invariant-loop-left

@@ -1,9 +1,6 @@
 -- `scanning::rows::next_bit` meets its contract: one byte after the other, until one is a digit.
-use Prim.Native.Nat.{◌-◌}
 use native.Mathlib.Omega.{arith}
-use borrow.Author.Tests.{not-true, not-false}
-use lib.ListN.{length}
-use Rattle.scanning.proofs.Ahead.{Seeking, seeking_start, seeking_within, seeking_next, seeking_end}
+use Rattle.scanning.proofs.Ahead.{seeking_start, seeking_within, seeking_next, seeking_end}
 use Rattle.scanning.proofs.rows.next_bit.Goals as goal
 
 pub loop-i-init : goal.loop-i-init

@@ -1,8 +1,6 @@
 use Prim.Native.Nat.{◌-◌}
-use native.Mathlib.Omega.{arith}
-use borrow.Author.Tests.{not-true, not-false}
 use lib.ListN.{length}
-use Rattle.scanning.proofs.Ahead.{Seeking, seeking_start, seeking_within, seeking_next, seeking_end}
+use Rattle.scanning.proofs.Ahead.{Seeking}
 use Rattle.scanning.proofs.rows.next_bit.Given as goal
 
 abbrev pub invariant-loop-i : goal.invariant-loop-i

@@ -1,9 +1,8 @@
 -- `scanning::rows::put_row` meets its contract: one digit after the other, and its bit.
-use Prim.Native.Nat.{◌-◌}
 use native.Mathlib.Omega.{arith}
 use lib.ListN.{get_or}
 use Rattle.scanning.proofs.Ahead.{digit_from}
-use Rattle.scanning.proofs.Masking.{Rowing, rowing_start, rowing_some, rowing_next, rowing_length, rowing_end}
+use Rattle.scanning.proofs.Masking.{rowing_start, rowing_some, rowing_next, rowing_length, rowing_end}
 use Rattle.scanning.proofs.rows.put_row.Goals as goal
 
 pub loop-p-init : goal.loop-p-init

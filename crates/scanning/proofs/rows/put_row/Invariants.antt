@@ -1,8 +1,5 @@
 use Prim.Native.Nat.{◌-◌}
-use native.Mathlib.Omega.{arith}
-use lib.ListN.{get_or}
-use Rattle.scanning.proofs.Ahead.{digit_from}
-use Rattle.scanning.proofs.Masking.{Rowing, rowing_start, rowing_some, rowing_next, rowing_length, rowing_end}
+use Rattle.scanning.proofs.Masking.{Rowing}
 use Rattle.scanning.proofs.rows.put_row.Given as goal
 
 abbrev pub invariant-loop-p : goal.invariant-loop-p

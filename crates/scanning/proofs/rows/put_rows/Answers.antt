@@ -1,7 +1,6 @@
 -- `scanning::rows::put_rows` meets its contract: the last row of the mask is set first.
-use Prim.Native.Nat.{◌-◌}
 use native.Mathlib.Omega.{arith}
-use Rattle.scanning.proofs.Masking.{row_number, row_fits, Masking, masking_start, masking_some, masking_next, masking_length, masking_end}
+use Rattle.scanning.proofs.Masking.{row_number, row_fits, masking_start, masking_some, masking_next, masking_length, masking_end}
 use Rattle.scanning.proofs.rows.put_rows.Goals as goal
 
 pub loop-n-init : goal.loop-n-init

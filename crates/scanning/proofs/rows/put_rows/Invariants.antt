@@ -1,6 +1,5 @@
 use Prim.Native.Nat.{◌-◌}
-use native.Mathlib.Omega.{arith}
-use Rattle.scanning.proofs.Masking.{row_number, row_fits, Masking, masking_start, masking_some, masking_next, masking_length, masking_end}
+use Rattle.scanning.proofs.Masking.{Masking}
 use Rattle.scanning.proofs.rows.put_rows.Given as goal
 
 abbrev pub invariant-loop-n : goal.invariant-loop-n

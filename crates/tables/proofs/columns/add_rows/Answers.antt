@@ -2,11 +2,9 @@
 use Prim.Native.Nat.{◌+◌}
 use native.Mathlib.Omega.{arith}
 use borrow.Author.Rules.{rules}
-use mir.Syntax.{w64}
-use mir.Val.{to_z}
 use mir.Facts.{to_z-of_z}
 use Rattle.tables.specs.Moves.{Addable}
-use Rattle.tables.proofs.Rowwise.{Rowwise, rowwise_start, rowwise_room, rowwise_next, rowwise_end}
+use Rattle.tables.proofs.Rowwise.{rowwise_start, rowwise_room, rowwise_next, rowwise_end}
 use Rattle.tables.proofs.columns.add_rows.Goals as goal
 
 pub loop-m-init : goal.loop-m-init

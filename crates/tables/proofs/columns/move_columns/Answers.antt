@@ -1,14 +1,12 @@
 -- `columns::move_columns` meets its contract: the rows from the last up, each step one of Horner's rule in every column.
-use Prim.Native.Nat.{◌+◌, ◌*◌, ◌-◌, ◌/◌, ◌≤◌}
+use Prim.Native.Nat.{◌+◌, ◌*◌, ◌/◌, ◌≤◌}
 use native.Mathlib.Omega.{arith}
 use borrow.Author.Rules.{rules}
 use lib.ListN.{length}
-use mir.Syntax.{w64}
-use mir.Val.{to_z}
 use mir.Facts.{to_z-of_z}
 use Rattle.algebra.proofs.Places.{row_start_all}
 use Rattle.tables.proofs.Subtables.{first_row_inside}
-use Rattle.tables.proofs.Shifting.{Shifting, shifting_start, shifting_lower, shifting_room, shifting_next, shifting_end}
+use Rattle.tables.proofs.Shifting.{shifting_start, shifting_lower, shifting_room, shifting_next, shifting_end}
 use Rattle.tables.proofs.columns.move_columns.Goals as goal
 
 pub overflow_add-first : goal.overflow_add-first

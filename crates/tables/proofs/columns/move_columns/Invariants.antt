@@ -1,13 +1,5 @@
-use Prim.Native.Nat.{◌+◌, ◌*◌, ◌-◌, ◌/◌, ◌≤◌}
-use native.Mathlib.Omega.{arith}
-use borrow.Author.Rules.{rules}
-use lib.ListN.{length}
-use mir.Syntax.{w64}
-use mir.Val.{to_z}
-use mir.Facts.{to_z-of_z}
-use Rattle.algebra.proofs.Places.{row_start_all}
-use Rattle.tables.proofs.Subtables.{first_row_inside}
-use Rattle.tables.proofs.Shifting.{Shifting, shifting_start, shifting_lower, shifting_room, shifting_next, shifting_end}
+use Prim.Native.Nat.{◌-◌}
+use Rattle.tables.proofs.Shifting.{Shifting}
 use Rattle.tables.proofs.columns.move_columns.Given as goal
 
 abbrev pub invariant-loop-n : goal.invariant-loop-n

@@ -1,10 +1,8 @@
 -- `rows::move_row` meets its contract: Horner's rule, from the last coefficient of the row down to the first.
 use native.Mathlib.Omega.{arith}
 use borrow.Author.Rules.{rules}
-use mir.Syntax.{w64}
-use mir.Val.{to_z}
 use mir.Facts.{to_z-of_z}
-use Rattle.tables.proofs.Moving.{Moving, moving_start, moving_down, moving_room, moving_next, moving_end}
+use Rattle.tables.proofs.Moving.{moving_start, moving_down, moving_room, moving_next, moving_end}
 use Rattle.tables.proofs.rows.move_row.Goals as goal
 
 pub loop-i-init : goal.loop-i-init

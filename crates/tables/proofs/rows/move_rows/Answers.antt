@@ -3,12 +3,8 @@ use Prim.Native.Nat.{◌+◌, ◌-◌, ◌<◌}
 use native.Mathlib.Omega.{arith}
 use borrow.Author.Rules.{rules}
 use lib.ListN.{length}
-use mir.Syntax.{w64}
-use mir.Val.{to_z}
 use mir.Facts.{to_z-of_z}
-use Rattle.forms.specs.Plane.{along}
-use Rattle.tables.specs.Table.{held_from}
-use Rattle.tables.proofs.Setting.{Setting, setting_start, setting_next, setting_end}
+use Rattle.tables.proofs.Setting.{setting_start, setting_next, setting_end}
 use Rattle.tables.proofs.Moving.{rows_inside, rows_room, rows_next}
 use Rattle.tables.proofs.rows.move_rows.Goals as goal
 

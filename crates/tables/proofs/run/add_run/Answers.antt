@@ -1,14 +1,12 @@
 -- `run::add_run` meets its contract: the sums are made from the first place up, each of two numbers that are still the old ones.
 use mathlib.Core.Path.{◌∙◌}
-use Prim.Native.Nat.{◌+◌, ◌-◌}
+use Prim.Native.Nat.{◌+◌}
 use native.Mathlib.Omega.{arith}
 use borrow.Author.Rules.{rules}
-use mir.Syntax.{w64}
-use mir.Val.{to_z}
 use mir.Facts.{to_z-of_z}
 use Rattle.numbers.proofs.Machine.{read64}
 use Rattle.tables.specs.Table.{at}
-use Rattle.tables.proofs.Adding.{Adding, adding_start, adding_room, adding_next, adding_end}
+use Rattle.tables.proofs.Adding.{adding_start, adding_room, adding_next, adding_end}
 use Rattle.tables.proofs.run.add_run.Goals as goal
 
 pub loop-c-init : goal.loop-c-init

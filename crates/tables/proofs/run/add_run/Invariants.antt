@@ -1,13 +1,5 @@
-use mathlib.Core.Path.{◌∙◌}
-use Prim.Native.Nat.{◌+◌, ◌-◌}
-use native.Mathlib.Omega.{arith}
-use borrow.Author.Rules.{rules}
-use mir.Syntax.{w64}
-use mir.Val.{to_z}
-use mir.Facts.{to_z-of_z}
-use Rattle.numbers.proofs.Machine.{read64}
-use Rattle.tables.specs.Table.{at}
-use Rattle.tables.proofs.Adding.{Adding, adding_start, adding_room, adding_next, adding_end}
+use Prim.Native.Nat.{◌-◌}
+use Rattle.tables.proofs.Adding.{Adding}
 use Rattle.tables.proofs.run.add_run.Given as goal
 
 abbrev pub invariant-loop-c : goal.invariant-loop-c

@@ -1,9 +1,9 @@
 -- `scaling::halve` meets its contract: row by row.
-use Prim.Native.Nat.{◌+◌, ◌-◌}
+use Prim.Native.Nat.{◌-◌}
 use native.Mathlib.Omega.{arith}
 use Rattle.tables.specs.Scaling.{RowHalvable}
-use Rattle.tables.proofs.Setting.{Setting, setting_start, setting_next}
-use Rattle.tables.proofs.Powers.{halved, halved_row_fits, halved_row_set, halved_end}
+use Rattle.tables.proofs.Setting.{setting_start, setting_next}
+use Rattle.tables.proofs.Powers.{halved_row_fits, halved_row_set, halved_end}
 use Rattle.tables.proofs.scaling.halve.Goals as goal
 
 pub loop-a-init : goal.loop-a-init

@@ -1,8 +1,6 @@
 use Prim.Native.Nat.{◌+◌, ◌-◌}
-use native.Mathlib.Omega.{arith}
-use Rattle.tables.specs.Scaling.{RowHalvable}
-use Rattle.tables.proofs.Setting.{Setting, setting_start, setting_next}
-use Rattle.tables.proofs.Powers.{halved, halved_row_fits, halved_row_set, halved_end}
+use Rattle.tables.proofs.Setting.{Setting}
+use Rattle.tables.proofs.Powers.{halved}
 use Rattle.tables.proofs.scaling.halve.Given as goal
 
 abbrev pub invariant-loop-a : goal.invariant-loop-a

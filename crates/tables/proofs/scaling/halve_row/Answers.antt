@@ -1,13 +1,12 @@
 -- `scaling::halve_row` meets its contract: place by place.
 use mathlib.Core.Path.{◌≡◌, ◌∙◌}
-use Prim.Native.Nat.{◌+◌, ◌-◌, ◌^◌}
+use Prim.Native.Nat.{◌+◌}
 use native.Mathlib.Omega.{arith}
-use lib.Signed.{shr_z}
 use mir.Syntax.{w64}
 use mir.Val.{to_z, of_z}
-use Rattle.tables.specs.Table.{at, row_of}
+use Rattle.tables.specs.Table.{at}
 use Rattle.numbers.proofs.Machine.{read64}
-use Rattle.tables.proofs.Setting.{RowMapping, row_mapping_start, row_mapping_next, row_mapping_end}
+use Rattle.tables.proofs.Setting.{row_mapping_start, row_mapping_next, row_mapping_end}
 use Rattle.tables.proofs.scaling.halve_row.Goals as goal
 
 pub loop-b-init : goal.loop-b-init

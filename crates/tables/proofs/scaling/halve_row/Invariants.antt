@@ -1,12 +1,7 @@
-use mathlib.Core.Path.{◌≡◌, ◌∙◌}
 use Prim.Native.Nat.{◌+◌, ◌-◌, ◌^◌}
-use native.Mathlib.Omega.{arith}
 use lib.Signed.{shr_z}
-use mir.Syntax.{w64}
-use mir.Val.{to_z, of_z}
-use Rattle.tables.specs.Table.{at, row_of}
-use Rattle.numbers.proofs.Machine.{read64}
-use Rattle.tables.proofs.Setting.{RowMapping, row_mapping_start, row_mapping_next, row_mapping_end}
+use Rattle.tables.specs.Table.{row_of}
+use Rattle.tables.proofs.Setting.{RowMapping}
 use Rattle.tables.proofs.scaling.halve_row.Given as goal
 
 abbrev pub invariant-loop-b : goal.invariant-loop-b

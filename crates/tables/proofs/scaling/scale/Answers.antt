@@ -1,9 +1,9 @@
 -- `scaling::scale` meets its contract: row by row.
-use Prim.Native.Nat.{◌+◌, ◌-◌}
+use Prim.Native.Nat.{◌-◌}
 use native.Mathlib.Omega.{arith}
 use Rattle.tables.specs.Scaling.{RowScalable}
-use Rattle.tables.proofs.Setting.{Setting, setting_start, setting_next}
-use Rattle.tables.proofs.Powers.{scaled, scaled_row_fits, scaled_row_set, scaled_end}
+use Rattle.tables.proofs.Setting.{setting_start, setting_next}
+use Rattle.tables.proofs.Powers.{scaled_row_fits, scaled_row_set, scaled_end}
 use Rattle.tables.proofs.scaling.scale.Goals as goal
 
 pub loop-a-init : goal.loop-a-init

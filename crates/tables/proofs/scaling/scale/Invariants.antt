@@ -1,8 +1,6 @@
 use Prim.Native.Nat.{◌+◌, ◌-◌}
-use native.Mathlib.Omega.{arith}
-use Rattle.tables.specs.Scaling.{RowScalable}
-use Rattle.tables.proofs.Setting.{Setting, setting_start, setting_next}
-use Rattle.tables.proofs.Powers.{scaled, scaled_row_fits, scaled_row_set, scaled_end}
+use Rattle.tables.proofs.Setting.{Setting}
+use Rattle.tables.proofs.Powers.{scaled}
 use Rattle.tables.proofs.scaling.scale.Given as goal
 
 abbrev pub invariant-loop-a : goal.invariant-loop-a

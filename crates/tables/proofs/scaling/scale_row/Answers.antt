@@ -1,15 +1,14 @@
 -- `scaling::scale_row` meets its contract: place by place, each by its own power.
 use mathlib.Core.Path.{◌≡◌, ◌∙◌}
-use Prim.Native.Nat.{ℕ, ◌+◌, ◌*◌, ◌-◌, ◌^◌, ◌≤◌, ◌<◌}
+use Prim.Native.Nat.{ℕ, ◌+◌, ◌*◌, ◌^◌, ◌≤◌, ◌<◌}
 use native.Mathlib.Nat as Nat
 use native.Mathlib.Omega.{arith}
-use lib.IntN.{pos, ◌*ℤ◌}
 use mir.Syntax.{w64}
 use mir.Val.{to_z, of_z}
-use Rattle.tables.specs.Table.{at, row_of}
+use Rattle.tables.specs.Table.{at}
 use Rattle.tables.specs.Scaling.{doublings}
 use Rattle.numbers.proofs.Machine.{read64}
-use Rattle.tables.proofs.Setting.{RowMapping, row_mapping_start, row_mapping_next, row_mapping_end}
+use Rattle.tables.proofs.Setting.{row_mapping_start, row_mapping_next, row_mapping_end}
 use Rattle.tables.proofs.scaling.scale_row.Goals as goal
 
 pub loop-b-init : goal.loop-b-init

@@ -6,8 +6,8 @@ use mir.Syntax.{w64}
 use mir.Val.{to_z, of_z}
 use mir.Facts.{to_z-of_z}
 use Rattle.numbers.proofs.Machine.{read64}
-use Rattle.tables.specs.Table.{at, row_of}
-use Rattle.tables.proofs.Values.{Descent, descent_start, descent_room, descent_next, descent_end}
+use Rattle.tables.specs.Table.{at}
+use Rattle.tables.proofs.Values.{descent_start, descent_room, descent_next, descent_end}
 use Rattle.tables.proofs.value.row_value.Goals as goal
 
 pub overflow_add-j : goal.overflow_add-j

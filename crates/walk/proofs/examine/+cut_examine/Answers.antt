@@ -1,21 +1,16 @@
 -- `walk::examine::examine` and `walk::examine::cut` meet their contracts, the two in one proof: k minus level falls.
 use mathlib.Core.Path.{◌≡◌, sym, ◌∙◌, ap}
-use mathlib.Core.List.{List, [], ◌∷◌}
-use Prim.Native.Nat.{ℕ, ◌+◌, ◌*◌, ◌-◌, ◌≤◌, ◌<◌}
+use mathlib.Core.List.{[], ◌∷◌}
+use Prim.Native.Nat.{◌-◌}
 use native.Mathlib.Omega.{arith}
-use lib.IntN.{ℤ}
 use mir.Facts.{to_z-of_z}
 use Rattle.forms.specs.Bounds.{mode_of}
 use Rattle.verdicts.specs.Judging.{carried_bend}
 use Rattle.verdicts.specs.Walking.{colour_of}
-use Rattle.page.specs.Sheet.{Sheet}
 use Rattle.page.specs.Bounds.{verdict}
-use Rattle.tables.specs.Scaling.{Halved}
 use Rattle.local.specs.Range.{judged_by}
-use Rattle.local.specs.declared.Form.{Form}
-use Rattle.cells.proofs.Parts.{Side, left, right}
-use Rattle.walk.specs.Steps.{NearForm, OwnForm, Owned, Carried}
-use Rattle.walk.proofs.Cells.{open_by, settled, few, depth_small, own_cell, column_fits, row_fits, may_move, moved_own, own_light, own_judged, carried_part}
+use Rattle.cells.proofs.Parts.{left, right}
+use Rattle.walk.proofs.Cells.{open_by, settled, few, depth_small, moved_own, own_light, own_judged, carried_part}
 use Rattle.walk.proofs.Painting.{examined_one, examined_cut}
 use Rattle.walk.proofs.examine.+cut_examine.Goals as goal
 use Rattle.walk.proofs.examine.+cut_examine.Goals.{examine-then-colour-eq1+else-level-k, examine-else-colour-eq1}
@@ -67,12 +62,14 @@ examine-range_on-requires t c =
 
 pub examine-cut-requires : goal.examine-cut-requires
 examine-cut-requires t c =
-    let h = c.requires.0 in
-    (omega arith, (
-      record { sheet = h.sheet; own = moved_own (rw (to_z-of_z c.ranges.across, to_z-of_z c.ranges.along) at c.to_part.ensures) h.sheet h.near },
-      c.requires.1,
-      c.if-level-k.true,
-    ))
+    let h = c.requires.0 in (
+      omega arith,
+      (
+        record { sheet = h.sheet; own = moved_own (rw (to_z-of_z c.ranges.across, to_z-of_z c.ranges.along) at c.to_part.ensures) h.sheet h.near },
+        c.requires.1,
+        c.if-level-k.true,
+      ),
+    )
 
 pub examine-returns-then-level-k : goal.examine-returns-then-level-k
 examine-returns-then-level-k t c S n =

@@ -1,21 +1,16 @@
 -- `walk::list::list_cell` and `walk::list::list_parts` meet their contracts, the two in one proof: k minus level falls.
 use mathlib.Core.Path.{◌≡◌, sym, ◌∙◌, ap}
 use mathlib.Core.List.{[], ◌∷◌}
-use Prim.Native.Nat.{ℕ, ◌+◌, ◌*◌, ◌-◌, ◌≤◌, ◌<◌}
+use Prim.Native.Nat.{◌-◌}
 use native.Mathlib.Omega.{arith}
-use lib.IntN.{ℤ}
-use lib.ListN.{length}
 use mir.Facts.{to_z-of_z}
 use Rattle.forms.specs.Bounds.{mode_of}
 use Rattle.verdicts.specs.Judging.{carried_bend}
 use Rattle.verdicts.specs.Walking.{colour_of}
-use Rattle.page.specs.Sheet.{Sheet}
 use Rattle.page.specs.Bounds.{verdict}
 use Rattle.local.specs.Range.{judged_by}
-use Rattle.page.proofs.Cells.{column_small, row_small}
-use Rattle.cells.proofs.Parts.{Side, left, right}
-use Rattle.walk.specs.Steps.{NearForm, OwnForm, Owned, Carried}
-use Rattle.walk.proofs.Cells.{open_by, Settled, settled, few, depth_small, column_fits, row_fits, may_move, moved_own, own_light, own_judged, carried_part}
+use Rattle.cells.proofs.Parts.{left, right}
+use Rattle.walk.proofs.Cells.{open_by, settled, few, depth_small, moved_own, own_light, own_judged, carried_part}
 use Rattle.walk.proofs.Recording.{room_one, room_first, room_second, room_third, room_fourth, recorded_one, recorded_cut}
 use Rattle.walk.proofs.list.+list_cell_list_parts.Goals as goal
 use Rattle.walk.proofs.list.+list_cell_list_parts.Goals.{list_cell-then-colour-eq1+else-level-k, list_cell-else-colour-eq1}
@@ -28,12 +23,14 @@ list_cell-range_on-requires t c =
 
 pub list_cell-list_parts-requires : goal.list_cell-list_parts-requires
 list_cell-list_parts-requires t c =
-    let h = c.requires.0 in
-    (omega arith, (
-      record { sheet = h.sheet; own = moved_own (rw (to_z-of_z c.ranges.across, to_z-of_z c.ranges.along) at c.to_part.ensures) h.sheet h.near },
-      c.requires.1,
-      c.if-level-k.true,
-    ))
+    let h = c.requires.0 in (
+      omega arith,
+      (
+        record { sheet = h.sheet; own = moved_own (rw (to_z-of_z c.ranges.across, to_z-of_z c.ranges.along) at c.to_part.ensures) h.sheet h.near },
+        c.requires.1,
+        c.if-level-k.true,
+      ),
+    )
 
 pub list_cell-returns-then-level-k : goal.list_cell-returns-then-level-k
 list_cell-returns-then-level-k t c S n =
@@ -62,35 +59,43 @@ list_cell-returns t c S n =
 -- ---- `list_parts`
 pub list_parts-list_cell-a-requires : goal.list_parts-list_cell-a-requires
 list_parts-list_cell-a-requires t c =
-    let o = c.requires.0 in
-    (omega arith, (
-      record { sheet = o.sheet; near = carried_part o.sheet c.requires.2 (search (left, right)) (search (left, right)) (omega arith) (omega arith) o.own c.halve.ensures },
-      room_first _ _ _ c.args.place.now c.requires.2 c.requires.1,
-    ))
+    let o = c.requires.0 in (
+      omega arith,
+      (
+        record { sheet = o.sheet; near = carried_part o.sheet c.requires.2 (search (left, right)) (search (left, right)) (omega arith) (omega arith) o.own c.halve.ensures },
+        room_first _ _ _ c.args.place.now c.requires.2 c.requires.1,
+      ),
+    )
 
 pub list_parts-list_cell-b-requires : goal.list_parts-list_cell-b-requires
 list_parts-list_cell-b-requires t c =
-    let o = c.requires.0 in
-    (omega arith, (
-      record { sheet = o.sheet; near = carried_part o.sheet c.requires.2 (search (left, right)) (search (left, right)) (omega arith) (omega arith) o.own c.halve.ensures },
-      room_second _ _ _ _ c.requires.2 c.requires.1 (c.list_cell-a.ensures o.sheet (carried_part o.sheet c.requires.2 (search (left, right)) (search (left, right)) (omega arith) (omega arith) o.own c.halve.ensures)),
-    ))
+    let o = c.requires.0 in (
+      omega arith,
+      (
+        record { sheet = o.sheet; near = carried_part o.sheet c.requires.2 (search (left, right)) (search (left, right)) (omega arith) (omega arith) o.own c.halve.ensures },
+        room_second _ _ _ _ c.requires.2 c.requires.1 (c.list_cell-a.ensures o.sheet (carried_part o.sheet c.requires.2 (search (left, right)) (search (left, right)) (omega arith) (omega arith) o.own c.halve.ensures)),
+      ),
+    )
 
 pub list_parts-list_cell-c-requires : goal.list_parts-list_cell-c-requires
 list_parts-list_cell-c-requires t c =
-    let o = c.requires.0 in
-    (omega arith, (
-      record { sheet = o.sheet; near = carried_part o.sheet c.requires.2 (search (left, right)) (search (left, right)) (omega arith) (omega arith) o.own c.halve.ensures },
-      room_third _ _ _ _ c.requires.2 c.requires.1 (c.list_cell-a.ensures o.sheet (carried_part o.sheet c.requires.2 (search (left, right)) (search (left, right)) (omega arith) (omega arith) o.own c.halve.ensures)) (c.list_cell-b.ensures o.sheet (carried_part o.sheet c.requires.2 (search (left, right)) (search (left, right)) (omega arith) (omega arith) o.own c.halve.ensures)),
-    ))
+    let o = c.requires.0 in (
+      omega arith,
+      (
+        record { sheet = o.sheet; near = carried_part o.sheet c.requires.2 (search (left, right)) (search (left, right)) (omega arith) (omega arith) o.own c.halve.ensures },
+        room_third _ _ _ _ c.requires.2 c.requires.1 (c.list_cell-a.ensures o.sheet (carried_part o.sheet c.requires.2 (search (left, right)) (search (left, right)) (omega arith) (omega arith) o.own c.halve.ensures)) (c.list_cell-b.ensures o.sheet (carried_part o.sheet c.requires.2 (search (left, right)) (search (left, right)) (omega arith) (omega arith) o.own c.halve.ensures)),
+      ),
+    )
 
 pub list_parts-list_cell-d-requires : goal.list_parts-list_cell-d-requires
 list_parts-list_cell-d-requires t c =
-    let o = c.requires.0 in
-    (omega arith, (
-      record { sheet = o.sheet; near = carried_part o.sheet c.requires.2 (search (left, right)) (search (left, right)) (omega arith) (omega arith) o.own c.halve.ensures },
-      room_fourth _ _ _ _ c.requires.2 c.requires.1 (c.list_cell-a.ensures o.sheet (carried_part o.sheet c.requires.2 (search (left, right)) (search (left, right)) (omega arith) (omega arith) o.own c.halve.ensures)) (c.list_cell-b.ensures o.sheet (carried_part o.sheet c.requires.2 (search (left, right)) (search (left, right)) (omega arith) (omega arith) o.own c.halve.ensures)) (c.list_cell-c.ensures o.sheet (carried_part o.sheet c.requires.2 (search (left, right)) (search (left, right)) (omega arith) (omega arith) o.own c.halve.ensures)),
-    ))
+    let o = c.requires.0 in (
+      omega arith,
+      (
+        record { sheet = o.sheet; near = carried_part o.sheet c.requires.2 (search (left, right)) (search (left, right)) (omega arith) (omega arith) o.own c.halve.ensures },
+        room_fourth _ _ _ _ c.requires.2 c.requires.1 (c.list_cell-a.ensures o.sheet (carried_part o.sheet c.requires.2 (search (left, right)) (search (left, right)) (omega arith) (omega arith) o.own c.halve.ensures)) (c.list_cell-b.ensures o.sheet (carried_part o.sheet c.requires.2 (search (left, right)) (search (left, right)) (omega arith) (omega arith) o.own c.halve.ensures)) (c.list_cell-c.ensures o.sheet (carried_part o.sheet c.requires.2 (search (left, right)) (search (left, right)) (omega arith) (omega arith) o.own c.halve.ensures)),
+      ),
+    )
 
 pub list_parts-cut_cell-seen-requires : goal.list_parts-cut_cell-seen-requires
 list_parts-cut_cell-seen-requires t c =

@@ -1,11 +1,7 @@
 -- `writing::lines::put_numbers` meets its contract: 11 bytes are room for a tab and a number of ten digits.
-use mathlib.Core.List.{◌∷◌}
-use Prim.Native.Nat.{◌+◌, ◌*◌, ◌-◌, ◌≤◌}
 use native.Mathlib.Omega.{arith}
-use lib.ListN.{length}
-use Rattle.page.specs.ListingText.{decimal}
 use Rattle.writing.specs.Steps.{tabbed}
-use Rattle.writing.proofs.Puts.{Putting, putting_start, putting_next, putting_end, put_two, put_length}
+use Rattle.writing.proofs.Puts.{putting_start, putting_next, putting_end, put_two, put_length}
 use Rattle.writing.proofs.Fields.{number_short}
 use Rattle.writing.proofs.lines.put_numbers.Goals as goal
 

@@ -1,9 +1,7 @@
 -- `writing::lines::put_records` meets its contract: 16 bytes are room for each record.
-use Prim.Native.Nat.{◌*◌, ◌-◌, ◌≤◌}
 use native.Mathlib.Omega.{arith}
-use lib.ListN.{length}
-use Rattle.writing.specs.Steps.{record_text, records_text}
-use Rattle.writing.proofs.Puts.{Putting, putting_start, putting_next, putting_end, put_length}
+use Rattle.writing.specs.Steps.{records_text}
+use Rattle.writing.proofs.Puts.{putting_start, putting_next, putting_end, put_length}
 use Rattle.writing.proofs.Fields.{record_short}
 use Rattle.writing.proofs.lines.put_records.Goals as goal
 

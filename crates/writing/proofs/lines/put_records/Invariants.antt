@@ -1,9 +1,7 @@
 use Prim.Native.Nat.{◌*◌, ◌-◌, ◌≤◌}
-use native.Mathlib.Omega.{arith}
 use lib.ListN.{length}
-use Rattle.writing.specs.Steps.{record_text, records_text}
-use Rattle.writing.proofs.Puts.{Putting, putting_start, putting_next, putting_end, put_length}
-use Rattle.writing.proofs.Fields.{record_short}
+use Rattle.writing.specs.Steps.{record_text}
+use Rattle.writing.proofs.Puts.{Putting}
 use Rattle.writing.proofs.lines.put_records.Given as goal
 
 abbrev pub invariant-loop-n : goal.invariant-loop-n

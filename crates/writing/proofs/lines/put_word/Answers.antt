@@ -1,9 +1,6 @@
 -- `writing::lines::put_word` meets its contract.
-use mathlib.Core.List.{[], ◌∷◌}
-use Prim.Native.Nat.{◌-◌}
 use native.Mathlib.Omega.{arith}
-use lib.ListN.{length}
-use Rattle.writing.proofs.Puts.{Putting, putting_start, putting_next, putting_end, put_length, each_byte, bytes_end}
+use Rattle.writing.proofs.Puts.{putting_start, putting_next, putting_end, put_length, each_byte, bytes_end}
 use Rattle.writing.proofs.lines.put_word.Goals as goal
 
 pub loop-i-init : goal.loop-i-init

@@ -1,8 +1,7 @@
 use mathlib.Core.List.{[], ◌∷◌}
 use Prim.Native.Nat.{◌-◌}
-use native.Mathlib.Omega.{arith}
 use lib.ListN.{length}
-use Rattle.writing.proofs.Puts.{Putting, putting_start, putting_next, putting_end, put_length, each_byte, bytes_end}
+use Rattle.writing.proofs.Puts.{Putting}
 use Rattle.writing.proofs.lines.put_word.Given as goal
 
 abbrev pub invariant-loop-i : goal.invariant-loop-i
