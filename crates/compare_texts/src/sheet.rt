@@ -24,7 +24,7 @@ fn put_coefficients(out: &mut [u8], coefficients: [i32; 45])
 }
 
 // Number, line and field.
-fn put_front(out: &mut [u8], sheet: &Reading)
+fn put_front(out: &mut [u8], sheet: Reading)
     requires { length out.old ≡ 440 }
 {
     put(out, 0, sheet.refusal as u64);
@@ -33,7 +33,7 @@ fn put_front(out: &mut [u8], sheet: &Reading)
 }
 
 // d, X and Y.
-fn put_middle(out: &mut [u8], sheet: &Reading)
+fn put_middle(out: &mut [u8], sheet: Reading)
     requires { length out.old ≡ 440 }
 {
     put(out, 24, sheet.d as u64);
@@ -42,7 +42,7 @@ fn put_middle(out: &mut [u8], sheet: &Reading)
 }
 
 // s, k and mode.
-fn put_back(out: &mut [u8], sheet: &Reading)
+fn put_back(out: &mut [u8], sheet: Reading)
     requires { length out.old ≡ 440 }
 {
     put(out, 48, sheet.s as u64);
@@ -54,9 +54,9 @@ pub fn words_of(sheet: Reading, last: u64) -> [u8; 440]
     ensures { 440 ≡ length result }
 {
     let mut out = word_space();
-    put_front(&mut out, &sheet);
-    put_middle(&mut out, &sheet);
-    put_back(&mut out, &sheet);
+    put_front(&mut out, sheet);
+    put_middle(&mut out, sheet);
+    put_back(&mut out, sheet);
     let coefficients = sheet.coefficients;
     put_coefficients(&mut out, coefficients);
     put(&mut out, 432, last);
