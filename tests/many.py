@@ -34,7 +34,7 @@ import texts
 import weights
 from demands import LARGEST_BENDS, kinds_of
 from many_cases import random_text, single_cases, walk_cases
-from program import made
+import program
 
 CASES = 100_000
 REFUSALS = {**cases.REFUSALS, "read": texts.REFUSALS, "answer": texts.REFUSALS}
@@ -96,7 +96,7 @@ def compared_texts(found, made, rng):
     """The calls that are given a text."""
     told = [texts.second_told(case.text) for case in made]
     items = [texts.Item(case, both, text_places.any_place(rng, len(both[1]))) for case, both in zip(made, told)]
-    answers = texts.run(made("compare_texts"), items)
+    answers = texts.run(program.made("compare_texts"), items)
     for item, (got, *left) in zip(items, answers):
         wanted, *expected = texts.second_answer(item)
         number, sheet = wanted[0], texts.described(item.case.text, wanted[0])
