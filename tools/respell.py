@@ -78,10 +78,16 @@ def respelled(name, known):
     return new
 
 
+def settled(name, known):
+    """The name as it stays, however often it is turned."""
+    new = respelled(name, known)
+    return new if new == name else settled(new, known)
+
+
 def table():
     names, definitions = gather()
     known = {plain(name) for name in definitions} | OPERATORS | LIBRARY
-    turned = {name: respelled(name, known) for name in sorted(names)}
+    turned = {name: settled(name, known) for name in sorted(names)}
     turned = {old: new for old, new in turned.items() if old != new}
     seen = {}
     for old, new in turned.items():
