@@ -1,5 +1,5 @@
 -- `local::measure::spared_in` meets its contract, by the test: only the mode 0 spares anything.
-use mathlib.Core.Path.{◌≡◌, refl}
+use mathlib.Core.Path.{◌≡◌, refl, sym, ◌∙◌, ap}
 use mathlib.Core.List.{List}
 use Prim.Native.Nat.{ℕ, zero, suc}
 use borrow.Author.Rules.{rules}
@@ -16,7 +16,7 @@ pub spared-requires : goal.spared-requires
 spared-requires c = search rules
 
 pub returns-then-mode-eq0 : goal.returns-then-mode-eq0
-returns-then-mode-eq0 c = rw c.if-mode-eq0.true c.spared.ensures
+returns-then-mode-eq0 c = let a = c.args in c.spared.ensures ∙ ap (λ mode. spare_in mode a.places.now a.d) (sym c.if-mode-eq0.true)
 
 pub returns : goal.returns
 returns c = let a = c.args in other-mode a.mode a.places.now a.d c.if-mode-eq0.false

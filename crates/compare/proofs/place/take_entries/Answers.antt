@@ -1,0 +1,6 @@
+-- `compare::place::take_entries` reads each entry within the bytes that it is given.
+use native.Mathlib.Omega.{arith}
+use Rattle.compare.proofs.place.take_entries.Goals as goal
+
+pub entry_at-requires : goal.entry_at-requires
+entry_at-requires c = omega arith
