@@ -1,4 +1,5 @@
 pub mod Rows
+pub mod Numbers
 pub mod TextRows
 pub mod Order
 pub mod Weights

@@ -6,6 +6,7 @@ pub mod LocalForm
 pub mod Bounds
 pub mod Weight
 pub mod Refusals
+pub mod Numbers
 pub mod SheetLine
 pub mod SheetText
 pub mod ListingText
