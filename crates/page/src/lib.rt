@@ -1,11 +1,8 @@
-// Document 01 as definitions, and what is proved of them. The code is one type: the refusals of the table, by name.
-// An inner crate: the calls stand in the crates above.
+// Document 01 as definitions, and what is proved of them. Its one type is the table's refusals, by name.
+// An inner crate: types, and no functions.
 #![tactic(auto)]
 
-ghost use Rattle.std.specs.Prelude.{◌≡◌};
-ghost use Rattle.page.specs.Numbers.{number_of};
-
-// The refusals of the calls and of a text, each with its number in the table.
+// The refusals of the calls and of a text, each with its number in the table: `refusal as u32`.
 #[derive(Clone, Copy, Debug, PartialEq, Eq)]
 pub enum Refusal {
     // d > 8
@@ -46,13 +43,4 @@ pub enum Refusal {
     Twice = 19,
     // a line without LF
     Unended = 20,
-}
-
-impl Refusal {
-    // Its number in the table.
-    pub fn number(self) -> u32
-        ensures { result ≡ number_of self }
-    {
-        self as u32
-    }
 }
