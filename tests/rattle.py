@@ -1,22 +1,19 @@
 """What a library of Rattle shows to others: its modules, read from its sources, and all that can be named or called from outside.
 
-A source is read token by token, so that it does not matter how its lines are broken. What is not understood is an error: `Unread`.
+A source is read token by token (tests/tokens.py). What is not understood is an error: `Unread`.
 """
 import collections
-import functools
 import re
 
 from sources import at, text_of
+from tokens import Unread, clauses, depths, tokens
 
-TOKEN = re.compile(r"""(?P<blank>\s+|//[^\n]*)|(?P<text>b?"(?:\\.|[^"\\])*"|b'(?:\\.|[^'\\])+')|(?P<word>'?\w+)|(?P<sign>::|->|\S)""")
-# the words before the braces of a clause, in which antt stands, and what may come between: the name of the clause, or of what is ghost
-CLAUSES = ("requires", "ensures", "ghost")
-NAMED = re.compile(r"\s*(?:\w+\s*[:=]?\s*)?\{")
 # the words that begin a path within the crate
 WITHIN = ("crate", "self", "super")
 
-# what may be derived: its contracts are those of std. Anything else that has an attribute is not understood
+# what may be derived, or be an impl's trait: its contracts are those of std. Anything else that has an attribute is not understood
 DERIVED = ("Drop", "Clone", "Copy", "PartialEq", "Eq", "Debug")
+TRAITS = ("From", "TryFrom", "Display", "Error", "Iterator")
 
 # a function: its module, name and line, each thing that it is given with its type, its answer's type, its clauses, whether C may call it, what it calls, and
 # the name of the cycle that it is in, if it is in one
@@ -25,19 +22,17 @@ Function = collections.namedtuple("Function", "module name line given answer cla
 Type = collections.namedtuple("Type", "module name line tokens")
 # a const, or another name for a type, with the tokens that say what it is
 Constant = collections.namedtuple("Constant", "module name line tokens")
+# a function in braces: the path of the type or trait, what the prover puts before its name, whether it is public, and the function
+Method = collections.namedtuple("Method", "path title public function")
 # a name for what a path leads to; a star for all that it holds
 Use = collections.namedtuple("Use", "path name")
-
-
-class Unread(Exception):
-    """A source has something at a line that is not understood."""
 
 
 class Module:
     def __init__(self, crate, path, file, parent):
         self.crate, self.path, self.file, self.parent = crate, path, file, parent
         self.items = []    # whether it is public, and the item
-        self.methods = []  # the path of a type, whether it is public, and the function
+        self.methods = []
         self.foreign = []  # the lines where functions of C are declared
 
     name = property(lambda self: self.path[-1])
@@ -48,7 +43,7 @@ class Module:
     def named_functions(self):
         """The functions of the module and of types that it has, each with its name there: that of its type stands before it."""
         own = [(item.name, item) for _, item in self.items if isinstance(item, Function)]
-        return own + [(f"{path[-1]}::{item.name}", item) for path, _, item in self.methods]
+        return own + [(f"{one.title}::{one.function.name}", one.function) for one in self.methods]
 
     def functions(self):
         return [item for _, item in self.named_functions()]
@@ -59,41 +54,6 @@ class Module:
         for _, item in self.items:
             if isinstance(item, Module):
                 yield from item.within()
-
-
-@functools.cache
-def tokens(text):
-    """The tokens with their lines. A clause is one of them, its word and all that its braces hold; and what a `ghost use` brings in is none."""
-    place, line, found = 0, 1, []
-    while place < len(text):
-        token = TOKEN.match(text, place)
-        word, end = token[0], token.end()
-        opened = NAMED.match(text, end) if word in CLAUSES else None
-        if opened:
-            depth, end = 1, opened.end()
-            while depth and end < len(text):
-                depth += {"{": 1, "}": -1}.get(text[end], 0)
-                end += 1
-            inner = text[opened.end():end - 1]
-            if depth or re.search(r'--|//|\{-|"', inner):
-                raise Unread(line, f"`{word}` with a comment or a text in its braces")
-            found.append((line, (word, " ".join(inner.split()))))
-        elif word == "ghost" and re.compile(r"\s+use\b").match(text, end):
-            end = text.find(";", end) + 1
-            if not end or "//" in text[place:end]:
-                raise Unread(line, "a `ghost use` that does not end, or with a comment in it")
-        elif not token["blank"]:
-            if text[place:place + 2] == "/*" or word in ('"', "\\") or token["text"] and re.search(r"[\w#]$", text[max(place - 1, 0):place]):
-                raise Unread(line, f"`{text[place:place + 2]}`")
-            found.append((line, word))
-        line += text.count("\n", place, end)
-        place = end
-    return tuple(found)
-
-
-def clauses(text):
-    """What stands in the braces of clauses, each with the line on which its clause begins."""
-    return [(line, token[1]) for line, token in tokens(text) if isinstance(token, tuple)]
 
 
 class Reader:
@@ -182,6 +142,9 @@ class Reader:
             module.items += ((public, use) for use in self.tree((), ";"))
         elif word == "impl":
             self.block(module)
+        elif word == "trait":
+            name, _ = self.next(), self.until("{")
+            self.methods(module, (name,), name, public)
         elif word in ("struct", "enum"):
             name, held = self.next(), []
             while self.tokens[self.place][1] != ";" and "{" not in held:
@@ -237,22 +200,41 @@ class Reader:
         yield Use(tuple(path), name or path[-1])
 
     def block(self, module):
-        """The functions of a type."""
-        line, said = self.line(), self.until("{")
-        path = tuple(token for token, depth in zip(said, depths(said)) if not depth and token not in ("::", "<"))
-        if "for" in path:
-            raise Unread(line, "a block for something else than a type")
+        """The functions of a type, or those that it has by a trait: these have the names of both before them, as the prover has them."""
+        self.generics()
+        said = self.until("{")
+        path = [token for token, depth in zip(said, depths(said)) if not depth and token not in ("::", "<", "&")]
+        if "for" not in path:
+            self.methods(module, tuple(path), path[-1])
+            return
+        trait, kind = path[:path.index("for")], path[path.index("for") + 1:]
+        if not re.fullmatch(r"\w+", " ".join(map(str, kind[-1:]))):
+            raise Unread(self.line(), "a block of a trait for no type")
+        # what a type has by a trait of a crate here is shown wherever the type is
+        self.methods(module, tuple(kind), kind[-1] + trait[-1], trait[-1] not in TRAITS)
+
+    def methods(self, module, path, title, shown=None):
+        """The functions in braces, each public where it says so, or all of them as the braces are; what is ghost, or a type of a trait, has no name from outside."""
         while not self.meets("}"):
             (exported, cycle), public = self.attributes(), self.public()
+            if isinstance(self.tokens[self.place][1], tuple) or self.tokens[self.place][1] == "type":
+                self.until(";")
+                continue
             self.meets("const")
             line, exported = self.line(), self.meets("extern", '"C"') or exported
             self.next("fn")
-            module.methods.append((path, public, self.function(module, line, exported, cycle)))
+            module.methods.append(Method(path, title, public if shown is None else shown, self.function(module, line, exported, cycle)))
+
+    def generics(self):
+        """Passes over what stands in angle brackets, which may hold others."""
+        if self.meets("<"):
+            depth = 1
+            while depth:
+                depth += {"<": 1, ">": -1}.get(self.next(), 0)
 
     def function(self, module, line, exported, cycle):
         name = self.next()
-        if self.meets("<"):
-            self.until(">")
+        self.generics()
         self.next("(")
         given, rest = [], self.until(")")
         while rest:
@@ -264,26 +246,19 @@ class Reader:
             given.append((named[0], one[one.index(":") + 1:] if ":" in one else one))
         answer, clauses = [], []
         if self.meets("->"):
-            while self.tokens[self.place][1] not in ("{", "where") and not isinstance(self.tokens[self.place][1], tuple):
+            while self.tokens[self.place][1] not in ("{", "where", ";") and not isinstance(self.tokens[self.place][1], tuple):
                 answer.append(self.next())
+                if answer[-1] in ("(", "["):
+                    answer += [*self.until({"(": ")", "[": "]"}[answer[-1]]), {"(": ")", "[": "]"}[answer[-1]]]
         if self.meets("where"):
-            while self.tokens[self.place][1] != "{" and not isinstance(self.tokens[self.place][1], tuple):
+            while self.tokens[self.place][1] not in ("{", ";") and not isinstance(self.tokens[self.place][1], tuple):
                 self.next()
         while isinstance(self.tokens[self.place][1], tuple):
             clauses.append(self.next())
-        self.next("{")
-        body = self.until("}")
+        # a trait's function need not have a body
+        body = self.until("}") if self.next("{", ";") == "{" else []
         called = {word for word, after in zip(body, body[1:]) if after == "(" and re.fullmatch(r"\w+", str(word))}
         return Function(module, name, line, given, answer, clauses, exported, called, cycle)
-
-
-def depths(tokens):
-    """How many brackets each token stands in."""
-    depth = 0
-    for token in tokens:
-        depth -= token in (")", "]", "}", ">")
-        yield depth + (token in (")", "]", "}", ">"))
-        depth += token in ("(", "[", "{", "<")
 
 
 def read(module):
@@ -391,7 +366,7 @@ class Faces:
             met.append(one)
             known += self.held(one.module, one.tokens)
             for module in one.module.root().within():
-                for path, public, item in module.methods:
+                for path, _, public, item in module.methods:
                     if public and not item.exported and any(kind is one for kind in self.meant(module, path)):
                         functions.append((f"{crate}::{one.name}::{item.name}", item))
                         known += self.held(module, [token for _, kind in item.given for token in kind] + item.answer)

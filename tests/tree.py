@@ -54,7 +54,7 @@ CITED = re.compile(r"`((?:crates|tests)/[^`]+\.(?:antt|rt|py))`((?:,?\s+`[^`/]+`
 DECLARED = {
     ".antt": r"^\s*(?:(?:unfoldable|abbrev) )*pub (?:(?:record|data) )?{} ",
     "Samples.antt": r"^\s*(?:(?:unfoldable|abbrev) )*(?:pub )?{} ",
-    ".rt": r"^(?:pub )?(?:fn|struct|enum|const) {}\b",
+    ".rt": r"^\s*(?:pub )?(?:fn|struct|enum|trait|const) {}\b",
     ".py": r"^(?:def {}\(|{} = )",
 }
 # what the kit's library std has among its proofs: a few words of its own, as the powers of whole numbers
@@ -166,7 +166,7 @@ def sentences():
 def ensured():
     """A function that is cited as a theorem has a contract to keep."""
     modules = [module for root in faces.roots().values() if root for module in root.within()]
-    functions = {(named(module.file), name): one for module in modules for name, one in module.named_functions()}
+    functions = {(named(module.file), said): one for module in modules for name, one in module.named_functions() for said in (name, one.name)}
     for page in CITING:
         for columns, cells in tables(page):
             cited = [found for column, cell in zip(columns, cells) if PROVED.search(column) for found in CITED.findall(cell)]

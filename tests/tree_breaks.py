@@ -115,7 +115,7 @@ BREAKS = {
         (f"{NUMBERS}:17 has the module more, which has no file", (NUMBERS, "\nmod more;\n")),
         (f"{NUMBERS}:11 has `requires` with a comment or a text in its braces", (NUMBERS, "n ≤ 8 }", "n ≤ 8 -- or more }")),
         (f"{NUMBERS}:17 has `- : u32` among what is given to last", (NUMBERS, "\nfn last(-: u32) {}\n")),
-        (f"{NUMBERS}:17 has a block for something else than a type", (NUMBERS, "\nimpl More for u32 {}\n")),
+        (f"{NUMBERS}:17 has a block of a trait for no type", (NUMBERS, "\nimpl More for [u32; 2] {}\n")),
     ],
     tree.disguises: [
         (f"{PROVED}:3 gives something else the name of the library Rattle",
@@ -249,6 +249,12 @@ KEEPS = [
     ("an error that is passed on", (NUMBERS, "\nfn same(n: u32) -> Option<u32> {\n    Some(one(n)?)\n}\n")),
     ("a definition of the kit, where its proofs are", (SPECS, "\nuse Rattle.std.proofs.Math.IntN.{pow}\nmore = pow\n")),
     ("what stands before an item", (NUMBERS, "\n#[derive(Clone, Copy, Drop)]\nstruct More(u32);\n\n#[cycle(same)]\n#[tactic(auto, using(more))]\nfn same() {}\n")),
+    ("functions of a type with a lifetime, and of one by a trait",
+     (NUMBERS, "\nstruct Few<'a> {\n    all: &'a [u32; 2],\n}\n\nimpl<'a> Few<'a> {\n    fn whole(self) -> [u32; 2] {\n        *self.all\n    }\n}\n"
+               "\nimpl<'a> From<&'a [u32; 2]> for Few<'a> {\n    ghost from_gives = { λ a r. r.all ≡ a };\n\n    fn from(all: &'a [u32; 2]) -> Self {\n        Few { all }\n    }\n}\n")),
+    ("a trait, and a function over it", (NUMBERS, "\ntrait Axis {\n    ghost along: { ℕ → ℕ };\n\n    fn moved(n: u64) -> u64\n        ensures { result ≡ along n };\n}\n"
+                                                  "\nstruct Across;\n\nimpl Axis for Across {\n    ghost along = { λ n. n };\n\n    fn moved(n: u64) -> u64 {\n        n\n    }\n}\n"
+                                                  "\nfn twice<A: Axis, I: Iterator<Item = [u64; 2]>, const N: usize>(n: u64) -> u64\nwhere\n    A: Drop,\n{\n    A::moved(n)\n}\n")),
     ("a text with the mark of a comment", (NUMBERS, '\nfn mark() -> [u8; 2] {\n    *b"//"\n}\n')),
     ("a name that is passed on", (PROVED, "{refl}\n", "{refl}\npub use Rattle.std.proofs.Path.{sym}\n")),
     ("the word of a folder in a comment", (SPECS, "-- its degree", "-- see proofs/Facts: its degree")),

@@ -4,9 +4,8 @@ use mathlib.Core.Bool.{Bool, true, false, cond}
 use mathlib.Core.List.{List, [], ◌∷◌}
 use Prim.Native.Nat.{ℕ, zero, suc}
 use native.Mathlib.Omega.{arith}
-use Rattle.page.specs.declared.Refusal.{Refusal}
 use Rattle.page.specs.declared.Refusal.TheVariants.{Degree, Count, Depth, Range, Mode, Weight, Place, Outside, Visited, Text, NotPlain, Sides, Letter, Fields, Written, Within, Beyond, Twice, Unended}
-use Rattle.page.specs.Refusals.{Row, first, table, refusal, unless}
+use Rattle.page.specs.Refusals.{Row, first, table, unless}
 use Rattle.page.specs.Numbers.{number_of, by_number, NamedByNumber, TableNamed}
 
 -- ---- a number names a refusal that has it
