@@ -2,7 +2,7 @@
 // An inner crate: what its functions require, every caller proves.
 #![tactic(auto)]
 
-ghost use Rattle.std.specs.Prelude.{◌≡◌, true, ◌*◌, ◌+◌, ◌-◌, ◌≤◌, min, ℕ};
+ghost use Rattle.std.specs.Prelude.{◌≡◌, true, ◌*◌, ◌+◌, ◌-◌, ◌≤◌, min};
 ghost use Rattle.page.specs.SheetLine.{is_digit, all_digits, amount};
 
 // Whether the byte is `0` to `9`.
