@@ -34,7 +34,7 @@ pub fn size(z: i64) -> u64
     requires { nat_abs z < 2 ^ 63 }
     ensures { result ≡ nat_abs z }
 {
-    if z < 0 { (0 - z) as u64 } else { z as u64 }
+    z.unsigned_abs()
 }
 
 // The ceiling 2^62.
@@ -44,7 +44,7 @@ pub const CEILING: u64 = 4611686018427387904;
 pub fn larger(a: u64, b: u64) -> u64
     ensures { result ≡ max a b }
 {
-    if a < b { b } else { a }
+    a.max(b)
 }
 
 // a + b, but not above the ceiling
@@ -52,7 +52,7 @@ pub fn capped_sum(a: u64, b: u64) -> u64
     requires { (a ≤ 2 ^ 62) × (b ≤ 2 ^ 62) }
     ensures { result ≡ min (a + b) (2 ^ 62) }
 {
-    if CEILING - a < b { CEILING } else { a + b }
+    (a + b).min(CEILING)
 }
 
 // a b, but not above the ceiling
@@ -60,17 +60,14 @@ pub fn capped_product(a: u64, b: u64) -> u64
     requires { (a ≤ 2 ^ 62) × (b ≤ 2 ^ 62) }
     ensures { result ≡ min (a * b) (2 ^ 62) }
 {
-    if b == 0 {
-        return 0;
-    }
-    if CEILING / b < a { CEILING } else { a * b }
+    a.saturating_mul(b).min(CEILING)
 }
 
 // 2^n, but not above the ceiling
 pub fn capped_power(n: u32) -> u64
     ensures { result ≡ min (2 ^ n) (2 ^ 62) }
 {
-    if 62 < n { CEILING } else { 1u64 << n }
+    1u64 << n.min(62)
 }
 
 // 2^n
@@ -85,12 +82,12 @@ pub fn power(n: u32) -> i64
 pub fn wide(z: i32) -> i64
     ensures { (result ≡ z) × (nat_abs z ≤ 2 ^ 31) }
 {
-    z as i64
+    i64::from(z)
 }
 
 // n as a signed number
 pub fn whole(n: u32) -> i64
     ensures { result ≡ pos n }
 {
-    n as i64
+    i64::from(n)
 }

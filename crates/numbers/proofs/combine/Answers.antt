@@ -3,12 +3,6 @@ use mir.Facts.{to_z-of_z}
 use Rattle.numbers.proofs.Machine.{fits_left, fits_right, fits_sum}
 use Rattle.numbers.proofs.combine.Goals as goal
 
-pub overflow_mul-result : goal.overflow_mul-result
-overflow_mul-result c = let a = c.args in rw (to_z-of_z c.ranges.x, to_z-of_z c.ranges.u) (fits_left a.x a.u a.y a.h c.requires)
-
-pub overflow_mul-result-2 : goal.overflow_mul-result-2
-overflow_mul-result-2 c = let a = c.args in rw (to_z-of_z c.ranges.y, to_z-of_z c.ranges.h) (fits_right a.x a.u a.y a.h c.requires)
-
 pub overflow_add-result : goal.overflow_add-result
 overflow_add-result c =
     let a = c.args in
