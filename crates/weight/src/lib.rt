@@ -16,16 +16,7 @@ pub fn axis_limit(z: i32, s: u32) -> u64
     let other = numbers::sum(corner, numbers::power(s));
     let near = numbers::size(corner);
     let far = numbers::size(other);
-    numbers::larger(near, far)
-}
-
-// |A| of the coefficient at n
-fn size_at(coefficients: &[i32], n: usize) -> u64
-    requires { n < length coefficients.now }
-    ensures { (result ≡ nat_abs (get_or coefficients.now n (pos 0))) × (result ≤ 2 ^ 31) }
-{
-    let a = coefficients[n];
-    numbers::size(numbers::wide(a))
+    near.max(far)
 }
 
 // one row: the sum of |A| r^j over the n + 1 coefficients from `first` on
@@ -35,12 +26,10 @@ fn row_weight(coefficients: &[i32], first: usize, n: usize, r: u64) -> u64
 {
     let mut sum = 0;
     let mut power = 1;
-    let mut j = 0;
-    while j <= n {
-        let term = numbers::capped_product(size_at(coefficients, first + j), power);
+    for &a in &coefficients[first..first + n + 1] {
+        let term = numbers::capped_product(u64::from(a.unsigned_abs()), power);
         sum = numbers::capped_sum(sum, term);
         power = numbers::capped_product(power, r);
-        j += 1;
     }
     sum
 }
@@ -53,13 +42,11 @@ fn sum_weight(d: usize, coefficients: &[i32], rx: u64, ry: u64) -> u64
     let mut sum = 0;
     let mut scale = 1;
     let mut first = 0;
-    let mut i = 0;
-    while i <= d {
+    for i in 0..=d {
         let row = numbers::capped_product(row_weight(coefficients, first, d - i, ry), scale);
         sum = numbers::capped_sum(sum, row);
         scale = numbers::capped_product(scale, rx);
         first += d + 1 - i;
-        i += 1;
     }
     sum
 }
@@ -80,6 +67,6 @@ pub fn spare_places(weight: u64) -> u32
     requires { weight < 2 ^ 62 }
     ensures { result ≡ 62 - digits weight }
 {
-    let digits = 64 - u64::leading_zeros(weight);
+    let digits = 64 - weight.leading_zeros();
     62 - digits
 }
