@@ -12,6 +12,8 @@ use lib.Dec.{ltb, eqb}
 use borrow.Author.Tests.{ltb-true, eqb-true, lt-ltb, le-ltb, eq-eqb, ne_eqb}
 use native.Mathlib.Decide.{dec_lt, ℕ_discrete}
 use Rattle.algebra.proofs.Choice.{same_test, and_left, and_right, and_both}
+use Rattle.algebra.proofs.Power.{*_pow}
+use Rattle.page.specs.Scaled.{IsCell}
 use Rattle.marks.specs.Steps.{Painted, in_run, Run, in_block, Block}
 use Rattle.marks.proofs.Picks.{pick_more}
 use Rattle.marks.proofs.Runs.{run_from, run_to, run_has}
@@ -124,6 +126,14 @@ module _ {k n p q c : ℕ} {old : List ℕ} where
       let e : row ≡ 2 ^ n = let w = f.within in omega arith in
       record { long = f.painted.long; each = λ i m. block_all k n p q c (get_or old i 0) (get_or place i 0) i (rw e at (f.painted.each i m)) }
 
--- a row of the grid ends within the grid
-pub rows_end : (y n : ℕ) → y < n → y * n + n ≤ n * n
+-- the run of each row of a cell ends within the grid
+rows_end : (y n : ℕ) → y < n → y * n + n ≤ n * n
 rows_end y n l = subst (λ m. m ≤ n * n) (suc-mul y n) (mul-le-mul_right n l)
+
+pub run_inside : {k level p q s t r n : ℕ} → IsCell k level p q → 4 ^ k ≤ n → s ≡ 2 ^ k → t ≡ 2 ^ (k - level) → r < t → (q * t + r) * s + p * t + t ≤ n
+run_inside {k} {level} {p} {q} {s} {t} {r} {n} cell whole es et l =
+    let x : p * t + t ≤ s = rw (et, es) (columns_end k level p cell.level cell.column) in
+    let y : q * t + t ≤ s = rw (et, es) (columns_end k level q cell.level cell.row) in
+    let z : (q * t + r) * s + s ≤ s * s = rows_end (q * t + r) s (omega arith) in
+    let w : s * s ≤ n = rw es (rw (*_pow 2 2 k) at whole) in
+    omega arith

@@ -23,9 +23,9 @@ pub fn bend_of(verdict: Verdict) -> u64
     ensures { result ≡ carried_bend verdict }
 {
     match verdict {
-        Verdict::Above { bend, .. } => bend,
-        Verdict::Below { bend, .. } => bend,
-        Verdict::Open { bend, .. } => bend,
+        Verdict::Above { bend, .. } | Verdict::Below { bend, .. } | Verdict::Open { bend, .. } => {
+            bend
+        }
     }
 }
 
@@ -53,9 +53,9 @@ pub fn cut_cell(a: Seen, b: Seen, c: Seen, d: Seen) -> Seen
     requires { Few a × Few b × Few c × Few d }
     ensures { result ≡ cut_seen a b c d }
 {
-    let low = numbers::larger(a.bend, b.bend);
-    let high = numbers::larger(c.bend, d.bend);
-    let bend = numbers::larger(low, high);
+    let low = a.bend.max(b.bend);
+    let high = c.bend.max(d.bend);
+    let bend = low.max(high);
     Seen {
         visited: 1 + a.visited + b.visited + c.visited + d.visited,
         coloured: a.coloured + b.coloured + c.coloured + d.coloured,
@@ -68,5 +68,5 @@ pub fn cell_record(colour: u8, level: u32, p: u32, q: u32) -> u32
     requires { (level ≤ 7) × (p < 128) × (q < 128) }
     ensures { result ≡ record_of colour level p q }
 {
-    colour as u32 + 4 * p + 512 * q + 65_536 * level
+    u32::from(colour) + 4 * p + 512 * q + 65_536 * level
 }

@@ -16,11 +16,7 @@ fn paint_run(place: &mut [u8], at: usize, count: usize, colour: u8)
     requires { at + count ≤ length place.old }
     ensures { Run at count colour place.old place.new }
 {
-    let mut i = 0;
-    while i < count {
-        place[at + i] = colour;
-        i += 1;
-    }
+    place[at..at + count].fill(colour);
 }
 
 // Sets the bytes of the finest cells that the cell covers.
@@ -32,9 +28,7 @@ pub fn paint_block(place: &mut [u8], k: u32, level: u32, p: u32, q: u32, colour:
     let count = side(k - level);
     let x = p as usize * count;
     let y = q as usize * count;
-    let mut row = 0;
-    while row < count {
+    for row in 0..count {
         paint_run(place, (y + row) * stride + x, count, colour);
-        row += 1;
     }
 }

@@ -4,6 +4,3 @@ use Rattle.marks.proofs.paint.paint_block.Given as goal
 
 abbrev pub invariant-loop-row : goal.invariant-loop-row
 invariant-loop-row l = Filling l.k (l.k - l.level) l.p l.q l.colour l.initial.place l.place l.row
-
-abbrev pub decreases-loop-row : goal.decreases-loop-row
-decreases-loop-row l = l.count - l.row
