@@ -1,8 +1,6 @@
 // The listing program: reads a sheet text from standard input and writes its listing, or the line of a refusal, to standard output.
 #![tactic(auto)]
 
-use intake::Input;
-
 // Writes the listing of a text, or the line of its refusal.
 fn respond(rt: &(impl Print + Eprint), input: &[u8]) {
     let mut place = reply::place();
@@ -16,8 +14,8 @@ fn main(rt: HostRuntime) {
     let mut space = intake::text_space();
     let input = intake::read_all(&mut rt.stdin(), &mut space);
     match input {
-        Input::Bytes(n) => respond(&rt, &space[..n]),
-        Input::Failed => {
+        Ok(n) => respond(&rt, &space[..n]),
+        Err(_) => {
             let _ = rt.eprintln("listing: standard input cannot be read");
         }
     }

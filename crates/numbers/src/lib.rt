@@ -2,7 +2,7 @@
 // An inner crate: what its functions require, every caller proves.
 #![tactic(auto)]
 
-ghost use Rattle.std.specs.Prelude.{◌≡◌, ◌+◌, ◌*◌, ◌^◌, ◌≤◌, ◌<◌, min, max, pos, ◌+ℤ◌, ◌*ℤ◌, nat_abs};
+ghost use Rattle.std.specs.Prelude.{◌≡◌, ◌+◌, ◌*◌, ◌^◌, ◌≤◌, ◌<◌, min, pos, ◌+ℤ◌, ◌*ℤ◌, nat_abs};
 ghost use Rattle.numbers.specs.Room.{Room};
 
 // x u + y h
@@ -39,13 +39,6 @@ pub fn size(z: i64) -> u64
 
 // The ceiling 2^62.
 pub const CEILING: u64 = 4611686018427387904;
-
-// the larger of a and b
-pub fn larger(a: u64, b: u64) -> u64
-    ensures { result ≡ max a b }
-{
-    a.max(b)
-}
 
 // a + b, but not above the ceiling
 pub fn capped_sum(a: u64, b: u64) -> u64

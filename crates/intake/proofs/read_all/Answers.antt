@@ -5,7 +5,6 @@ use Rattle.std.proofs.lemmas.Slice.{take-put_mid_below}
 use Rattle.std.proofs.KnownBytes.{Consumes-trans}
 use Rattle.std.specs.Io.KnownBytes.{Consumes}
 use borrow.Rule.Slice.PartMut.{put_mid, post_of}
-use native.Mathlib.Omega.{arith}
 use Rattle.intake.proofs.read_all.Goals as goal
 
 put_behind : (at k n : ℕ) (xs ys : List ℕ) → at ≤ length xs → n ≤ length ys → take at xs ++ take n ys ≡ take (at + n) (put_mid at k xs ys)
@@ -16,9 +15,5 @@ put_behind at k n xs ys within fits =
 
 pub loop-at-preserved : goal.loop-at-preserved
 loop-at-preserved g c =
-    let more = put_behind c.loop-at.at (length c.loop-at.place - c.loop-at.at) c.in-Bytes.n c.loop-at.place c.read_more-input.new.part c.loop-at.invariant.0 c.in-Bytes.ensures.within in
-    (search rules, search rules, subst (Consumes _ _) more (Consumes-trans _ _ _ _ _ c.loop-at.invariant.2 c.in-Bytes.ensures.bytes.0))
-
--- each turn fills more of the place
-pub loop-at-smaller : goal.loop-at-smaller
-loop-at-smaller g c = omega arith
+    let more = put_behind c.loop-at.at (length c.loop-at.place - c.loop-at.at) c.in_ok-n.n c.loop-at.place c.read.new.buf c.loop-at.invariant.0 (search rules) in
+    (search rules, subst (Consumes _ _) more (Consumes-trans _ _ _ _ _ c.loop-at.invariant.1 c.in_ok-n.ensures.bytes.0))
