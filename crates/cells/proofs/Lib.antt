@@ -2,3 +2,4 @@ pub mod Forms
 pub mod Parts
 pub mod Widening
 pub mod Making
+pub mod Refused

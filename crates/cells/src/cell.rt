@@ -1,12 +1,12 @@
 // The local form of a cell, worked out from the sheet.
 ghost use Rattle.std.specs.Prelude.{◌≡◌, ◌+◌, ◌*◌, ◌-◌, ◌^◌, ◌≤◌, ◌<◌, pos, ◌+ℤ◌, ◌*ℤ◌, nat_abs};
 ghost use Rattle.local.specs.Form.{Tabled};
-ghost use Rattle.page.specs.Sheet.{sheet_of};
 ghost use Rattle.page.specs.Scaled.{IsCell};
 ghost use Rattle.page.specs.LocalForm.{G};
 ghost use Rattle.page.specs.Weight.{Accepted};
+ghost use Rattle.cells.specs.Sheet.{the_sheet};
 
-use crate::scale::scaled_form;
+use crate::Sheet;
 use local::Form;
 
 // 2^(k+1)·X, and so of Y
@@ -26,29 +26,21 @@ fn centre(z: i32, k: u32, p: u32, h: i64) -> i64
     numbers::sum(corner(z, k), numbers::product(odd, h))
 }
 
-// The local form of the cell at level j, column p, row q: the scaled form moved to the centre, and each place times its power of the half-side.
-pub fn cell_form(
-    d: u32,
-    coefficients: &[i32],
-    x: i32,
-    y: i32,
-    s: u32,
-    k: u32,
-    j: u32,
-    p: u32,
-    q: u32,
-) -> Form
-    requires { Accepted (sheet_of d coefficients.now x y s k) × IsCell k j p q }
-    ensures { Tabled d (G (sheet_of d coefficients.now x y s k) j p q) result }
-{
-    let h = numbers::power(s + k - j);
-    let u = centre(x, k, p, h);
-    let v = centre(y, k, q, h);
-    let mut form = scaled_form(d, coefficients, k);
-    let n = d as usize;
-    tables::move_table(&mut form.places, n, u, v);
-    tables::scale(&mut form.places, d, s + k - j, 0);
-    form
+impl Sheet<'_> {
+    // The local form of the cell at level j, column p, row q: the scaled form moved to the centre, and each place times its power of the half-side.
+    pub fn cell_form(self, j: u32, p: u32, q: u32) -> Form
+        requires { Accepted (the_sheet self) × IsCell self.k j p q }
+        ensures { Tabled self.entry.d (G (the_sheet self.entry) j p q) result }
+    {
+        let h = numbers::power(self.s + self.k - j);
+        let u = centre(self.x, self.k, p, h);
+        let v = centre(self.y, self.k, q, h);
+        let mut form = self.scaled_form();
+        let n = self.d as usize;
+        tables::move_table(&mut form.places, n, u, v);
+        tables::scale(&mut form.places, self.d, self.s + self.k - j, 0);
+        form
+    }
 }
 
 // Zeros, where there is no form.

@@ -3,9 +3,8 @@
 #![tactic(auto)]
 
 mod cell;
-mod refusals;
 mod scale;
+mod sheet;
 
-pub use cell::{cell_form, no_form};
-pub use refusals::{count, mode_refusal, range_refusal, sheet_weight};
-pub use scale::scaled_form;
+pub use cell::no_form;
+pub use sheet::{Sheet, count};
