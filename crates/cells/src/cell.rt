@@ -9,6 +9,14 @@ ghost use Rattle.cells.specs.Sheet.{the_sheet};
 use crate::Sheet;
 use local::Form;
 
+// A cell of a sheet, by its level, column and row.
+#[derive(Clone, Copy)]
+pub struct Cell {
+    pub level: u32,
+    pub column: u32,
+    pub row: u32,
+}
+
 // 2^(k+1)·X, and so of Y
 fn corner(z: i32, k: u32) -> i64
     requires { (nat_abs z ≤ 1_048_576) × (k ≤ 7) }
@@ -27,18 +35,18 @@ fn centre(z: i32, k: u32, p: u32, h: i64) -> i64
 }
 
 impl Sheet<'_> {
-    // The local form of the cell at level j, column p, row q: the scaled form moved to the centre, and each place times its power of the half-side.
-    pub fn cell_form(self, j: u32, p: u32, q: u32) -> Form
-        requires { Accepted (the_sheet self) × IsCell self.k j p q }
-        ensures { Tabled self.entry.d (G (the_sheet self.entry) j p q) result }
+    // The local form of a cell: the scaled form moved to the centre, and each place times its power of the half-side.
+    pub fn cell_form(self, cell: Cell) -> Form
+        requires { Accepted (the_sheet self) × IsCell self.k cell.level cell.column cell.row }
+        ensures { Tabled self.entry.d (G (the_sheet self.entry) cell.level cell.column cell.row) result }
     {
-        let h = numbers::power(self.s + self.k - j);
-        let u = centre(self.x, self.k, p, h);
-        let v = centre(self.y, self.k, q, h);
+        let h = numbers::power(self.s + self.k - cell.level);
+        let u = centre(self.x, self.k, cell.column, h);
+        let v = centre(self.y, self.k, cell.row, h);
         let mut form = self.scaled_form();
         let n = self.d as usize;
         tables::move_table(&mut form.places, n, u, v);
-        tables::scale(&mut form.places, self.d, self.s + self.k - j, 0);
+        tables::scale(&mut form.places, self.d, self.s + self.k - cell.level, 0);
         form
     }
 }

@@ -15,14 +15,14 @@ pub centre-u-requires : goal.centre-u-requires
 centre-u-requires c =
     let S = the_sheet c.args.self in let r = c.requires.0.ranges in
     let x : to_z w32 (of_z w32 c.args.self.x) ≡ c.args.self.x = search rules in
-    let half : to_z w64 (of_z w64 c.power-h.result) ≡ pos (half_side S c.args.j) = search rules in
+    let half : to_z w64 (of_z w64 c.power-h.result) ≡ pos (half_side S c.args.cell.level) = search rules in
     rw (x, half) (r.corner_x, r.depth, column_small r c.requires.1, half_side_small r c.requires.1)
 
 pub centre-v-requires : goal.centre-v-requires
 centre-v-requires c =
     let S = the_sheet c.args.self in let r = c.requires.0.ranges in
     let y : to_z w32 (of_z w32 c.args.self.y) ≡ c.args.self.y = search rules in
-    let half : to_z w64 (of_z w64 c.power-h.result) ≡ pos (half_side S c.args.j) = search rules in
+    let half : to_z w64 (of_z w64 c.power-h.result) ≡ pos (half_side S c.args.cell.level) = search rules in
     rw (y, half) (r.corner_y, r.depth, row_small r c.requires.1, half_side_small r c.requires.1)
 
 pub scaled_form-form-requires : goal.scaled_form-form-requires
@@ -30,21 +30,21 @@ scaled_form-form-requires c = scalable c.requires.0
 
 pub move_table-requires : goal.move_table-requires
 move_table-requires c =
-    let S = the_sheet c.args.self in let a = c.args in
-    let u : to_z w64 (of_z w64 c.centre-u.result) ≡ U0 S a.j a.p = search rules in
-    let v : to_z w64 (of_z w64 c.centre-v.result) ≡ V0 S a.j a.q = search rules in
-    let form = c.scaled_form-form.ensures in rw (u, v) (form.long, centre_movable c.requires.0 form a.j a.p a.q c.requires.1)
+    let S = the_sheet c.args.self in let a = c.args.cell in
+    let u : to_z w64 (of_z w64 c.centre-u.result) ≡ U0 S a.level a.column = search rules in
+    let v : to_z w64 (of_z w64 c.centre-v.result) ≡ V0 S a.level a.row = search rules in
+    let form = c.scaled_form-form.ensures in rw (u, v) (form.long, centre_movable c.requires.0 form a.level a.column a.row c.requires.1)
 
 pub scale-requires : goal.scale-requires
 scale-requires c =
-    let S = the_sheet c.args.self in let a = c.args in
-    let u : to_z w64 (of_z w64 c.centre-u.result) ≡ U0 S a.j a.p = search rules in
-    let v : to_z w64 (of_z w64 c.centre-v.result) ≡ V0 S a.j a.q = search rules in
-    place_fits c.requires.0 c.scaled_form-form.ensures a.j a.p a.q c.requires.1 (rw (u, v) at c.move_table.ensures)
+    let S = the_sheet c.args.self in let a = c.args.cell in
+    let u : to_z w64 (of_z w64 c.centre-u.result) ≡ U0 S a.level a.column = search rules in
+    let v : to_z w64 (of_z w64 c.centre-v.result) ≡ V0 S a.level a.row = search rules in
+    place_fits c.requires.0 c.scaled_form-form.ensures a.level a.column a.row c.requires.1 (rw (u, v) at c.move_table.ensures)
 
 pub returns : goal.returns
 returns c =
-    let S = the_sheet c.args.self in let a = c.args in
-    let u : to_z w64 (of_z w64 c.centre-u.result) ≡ U0 S a.j a.p = search rules in
-    let v : to_z w64 (of_z w64 c.centre-v.result) ≡ V0 S a.j a.q = search rules in
-    let form = c.scaled_form-form.ensures in placed c.requires.0 form a.j a.p a.q c.requires.1 (rw (u, v) at c.move_table.ensures) form.degree c.scale.ensures
+    let S = the_sheet c.args.self in let a = c.args.cell in
+    let u : to_z w64 (of_z w64 c.centre-u.result) ≡ U0 S a.level a.column = search rules in
+    let v : to_z w64 (of_z w64 c.centre-v.result) ≡ V0 S a.level a.row = search rules in
+    let form = c.scaled_form-form.ensures in placed c.requires.0 form a.level a.column a.row c.requires.1 (rw (u, v) at c.move_table.ensures) form.degree c.scale.ensures
