@@ -6,11 +6,26 @@ use Rattle.page.specs.declared.Refusal.{Refusal}
 use Rattle.page.specs.Numbers.{by_number, answer}
 use Rattle.page.proofs.Rows.{or_else}
 
-pub refused_first : {X Y : Type 0} (v : X) (w : Y) {e : Refusal} (r : Result Y Refusal) (n m : ℕ) → answer n v ≡ Err e → IsErrAnd r (λ x. x ≡ e) → r ≡ answer (or_else n m) w
-refused_first v w r zero m h g = cc
-refused_first v w (Ok y) (suc n) m h g = absurd g
-refused_first v w {e} (Err x) (suc n) m h g = let q : by_number (suc n) ≡ e = cc in ap Err (g ∙ sym q)
+-- ---- of a step with the values v, of which the call, with the values w, returns the refusal e
+module _ {X Y : Type 0} (v : X) (w : Y) {e : Refusal} (r : Result Y Refusal) where
+  pub refused_same : (n : ℕ) → answer n v ≡ Err e → IsErrAnd r (λ x. x ≡ e) → r ≡ answer n w
+  refused_same zero h g = cc
+  refused_same (suc n) h g = returned r g
+    where
+      returned : (r : Result Y Refusal) → IsErrAnd r (λ x. x ≡ e) → r ≡ Err (by_number (suc n))
+      returned (Ok y) g = absurd g
+      returned (Err x) g = let q : by_number (suc n) ≡ e = cc in ap Err (g ∙ sym q)
 
+  -- more is tried after it
+  pub refused_first : (n m : ℕ) → answer n v ≡ Err e → IsErrAnd r (λ x. x ≡ e) → r ≡ answer (or_else n m) w
+  refused_first zero m h g = cc
+  refused_first (suc n) m h g = refused_same (suc n) h g
+
+-- ---- of a step that passed
 pub passed_none : {X : Type 0} (v : X) {x : X} (n : ℕ) → answer n v ≡ Ok x → n ≡ 0
 passed_none v zero h = refl
 passed_none v (suc n) h = cc
+
+pub passed_values : {X : Type 0} (v : X) {x : X} (n : ℕ) → answer n v ≡ Ok x → x ≡ v
+passed_values v zero h = cc
+passed_values v (suc n) h = cc

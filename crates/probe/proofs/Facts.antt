@@ -7,6 +7,7 @@ use native.Mathlib.Omega.{arith}
 use lib.IntN.{ℤ, pos, ◌+ℤ◌, ◌-ℤ◌, ◌*ℤ◌, nat_abs}
 use Rattle.algebra.proofs.Absolute.{nat_abs_neg_ℤ}
 use Rattle.algebra.proofs.Ring.{ring, ◌⊕◌, ◌⊖◌, ◌⊗◌, ⊝◌, #◌, ◌≐◌}
+use Rattle.std.specs.Prelude.{Result, Ok, Err}
 use Rattle.verdicts.specs.declared.Verdict.{Verdict}
 use Rattle.verdicts.specs.declared.Verdict.TheVariants.{Above, Below, Open}
 use Rattle.page.specs.Sheet.{Sheet, mode_of}
@@ -19,8 +20,8 @@ use Rattle.page.proofs.Facts.{accepted_by_check}
 use Rattle.page.proofs.Edges.{square_is_cell}
 use Rattle.page.proofs.Demand3.{contained, no_overshoot, one_sign, open_meets}
 use Rattle.page.proofs.Raster.{encloses}
-use Rattle.probe.specs.declared.Bounded.{Bounded}
-use Rattle.probe.specs.declared.Bounded.TheVariants as Bounded
+use Rattle.page.specs.declared.Refusal.{Refusal}
+use Rattle.page.specs.Numbers.{by_number}
 use Rattle.probe.specs.Answers.{Weighed, weighed, Evaluated, evaluated, bounded, Measured, states_bounds, measured}
 use Rattle.probe.specs.Promises.{BoundsPromise}
 use Rattle.probe.specs.Facts.{CheckNumber, ValueNumber, BoundsNumber, CheckZeros, ValueZeros, BoundsZeros, AnsweredContains, AnsweredNear, AnsweredSigned, AnsweredMeets, CornersAnswered}
@@ -53,17 +54,17 @@ bounds_zeros S mode j p q r h n = h.1 ∙ sym (unless_refused _ _ _ n)
 
 -- ---- demand 3
 -- where nothing is refused the answer states the page's bounds and bend
-module _ (S : Sheet) (mode j p q : ℕ) (r : Bounded) (h : BoundsPromise S mode j p q r) where
+module _ (S : Sheet) (mode j p q : ℕ) (r : Result Verdict Refusal) (h : BoundsPromise S mode j p q r) where
   stated : refusal (in_cell S mode j p q) ≡ 0 → states_bounds r ≡ record { number = 0; lower = lower S (mode_of mode) j p q; upper = upper S (mode_of mode) j p q; bend = bend S j p q }
   unfolding measured
   stated e = h.1 ∙ sym (unless_none _ _ _ e)
 
   -- and where it carries a verdict it is the page's
-  carried : (v : Verdict) → r ≡ Bounded.Cell v → verdict S (mode_of mode) j p q ≡ v
+  carried : (v : Verdict) → r ≡ Ok v → verdict S (mode_of mode) j p q ≡ v
   unfolding bounded
   carried v e = by (refusal (in_cell S mode j p q)) (sym h.0 ∙ e)
     where
-      by : (m : ℕ) {w : Verdict} → unless m Bounded.Refused (Bounded.Cell w) ≡ Bounded.Cell v → w ≡ v
+      by : (m : ℕ) {w : Verdict} → unless m (λ n. Err (by_number n)) (Ok w) ≡ Ok v → w ≡ v
       by zero e = cc
       by (suc m) e = let z : ◌≡◌ {A = ℕ} 0 1 = cc in absurd (omega arith)
 

@@ -1,10 +1,12 @@
-// The conditions of the refusal table that a point or a cell adds, tried in its order.
+// The conditions of the refusal table that each call of this crate tries, in its order.
 ghost use Rattle.std.specs.Prelude.{◌≡◌, ◌≤◌, nat_abs};
-ghost use Rattle.page.specs.Sheet.{sheet_of};
-ghost use Rattle.page.specs.Refusals.{outside_side, refusal, at_point, in_cell};
-ghost use Rattle.probe.specs.Answers.{states_weight};
+ghost use Rattle.page.specs.Weight.{weight};
+ghost use Rattle.page.specs.Refusals.{outside_side, refusal, to_check, at_point, in_cell};
+ghost use Rattle.page.specs.Numbers.{answer, passed};
+ghost use Rattle.cells.specs.Sheet.{the_sheet};
 
-use crate::{Checked, check};
+use cells::{Cell, Sheet};
+use page::Refusal;
 
 // U outside its side of the closed square, and so of V.
 fn outside(z: i32, s: u32, k: u32, u: i64) -> bool
@@ -22,73 +24,40 @@ fn outside(z: i32, s: u32, k: u32, u: i64) -> bool
     high < u
 }
 
-// The number that an answer of `check` states: 0 where the sheet is accepted.
-fn number_of(answer: Checked) -> u32
-    ensures { result ≡ (states_weight answer).number }
+// The weight, where none of 1 to 4 and 6 holds.
+pub fn check_sheet(sheet: Sheet<'_>) -> Result<u64, Refusal>
+    ensures { result ≡ answer (refusal (to_check (the_sheet sheet.entry))) (weight (the_sheet sheet.entry)) }
 {
-    match answer {
-        Checked::Accepted {
-            weight: _,
-            spare: _,
-        } => 0,
-        Checked::Refused(number) => number,
+    sheet.check_ranges()?;
+    let weight = sheet.weight();
+    if weight == numbers::CEILING {
+        return Err(Refusal::Weight);
     }
+    Ok(weight)
 }
 
-// The first that holds of those that `check` tries, and then of 8, or 0.
-pub fn point_refusal(
-    d: u32,
-    coefficients: &[i32],
-    x: i32,
-    y: i32,
-    s: u32,
-    k: u32,
-    u: i64,
-    v: i64,
-) -> u32
-    ensures { result ≡ refusal (at_point (sheet_of d coefficients.now x y s k) u v) }
+// The first that holds of those that `check` tries, and then of 8.
+pub fn check_point(sheet: Sheet<'_>, u: i64, v: i64) -> Result<(), Refusal>
+    ensures { result ≡ passed (refusal (at_point (the_sheet sheet.entry) u v)) }
 {
-    let first = number_of(check(d, coefficients, x, y, s, k));
-    if first != 0 {
-        return first;
+    check_sheet(sheet)?;
+    if outside(sheet.x, sheet.s, sheet.k, u) || outside(sheet.y, sheet.s, sheet.k, v) {
+        return Err(Refusal::Outside);
     }
-    if outside(x, s, k, u) {
-        return 8;
-    }
-    if outside(y, s, k, v) {
-        return 8;
-    }
-    0
+    Ok(())
 }
 
-// The first of 1 to 6 and 8 that holds, or 0.
-pub fn cell_refusal(
-    d: u32,
-    coefficients: &[i32],
-    x: i32,
-    y: i32,
-    s: u32,
-    k: u32,
-    mode: u32,
-    j: u32,
-    p: u32,
-    q: u32,
-) -> u32
-    ensures { result ≡ refusal (in_cell (sheet_of d coefficients.now x y s k) mode j p q) }
+// The first of 1 to 6 and 8 that holds.
+pub fn check_cell(sheet: Sheet<'_>, mode: u32, cell: Cell) -> Result<(), Refusal>
+    ensures { result ≡ passed (refusal (in_cell (the_sheet sheet.entry) mode cell.level cell.column cell.row)) }
 {
-    let first = cells::mode_refusal(d, coefficients, x, y, s, k, mode);
-    if first != 0 {
-        return first;
+    sheet.check_mode(mode)?;
+    if sheet.k < cell.level {
+        return Err(Refusal::Outside);
     }
-    if k < j {
-        return 8;
+    let columns = 1u32 << cell.level;
+    if columns <= cell.column || columns <= cell.row {
+        return Err(Refusal::Outside);
     }
-    let columns = 1u32 << j;
-    if columns <= p {
-        return 8;
-    }
-    if columns <= q {
-        return 8;
-    }
-    0
+    Ok(())
 }
