@@ -5,8 +5,9 @@ use Prim.Native.Nat.{ℕ, suc, ◌+◌, ◌≤◌, ◌<◌}
 use native.Mathlib.Nat as Nat
 use native.Mathlib.Numerals.{add-one}
 use native.Mathlib.Omega.{arith}
+use borrow.Rule.Slice.PartMut.{put_mid}
 use lib.ListN.{length, get_or, take, drop, length-append}
-use lib.Seq.{take-suc, take_all, length-take-le, sets-eq, split_at}
+use lib.Seq.{drop-drop, take-suc, take_all, sets-eq, split_at}
 use Rattle.algebra.proofs.Written.{written_two, written_length}
 use Rattle.writing.specs.Steps.{Put}
 
@@ -27,6 +28,10 @@ pub over_put : {xs old now : List ℕ} {r : ℕ} → length xs ≤ length old �
 over_put {xs} {old} h e f =
     let z : 0 + length xs ≡ length xs = Nat.zero-add (length xs) in
     record { put = record { ends = e ∙ sym z; written = f ∙ sym (sets-eq xs old 0 (omega arith) ∙ ap (λ n. xs ++ drop n old) z) }; fits = omega arith }
+
+-- what a part of the place is made to hold was put there
+pub put_part : {xs ys old : List ℕ} {at k : ℕ} → ys ≡ xs → k ≡ length xs → at + length xs ≤ length old → Put at xs old (put_mid at k old ys) (at + length xs)
+put_part {xs} {old = old} {at = at} e n h = record { put = record { ends = refl; written = rw (e, n, drop-drop (length xs) at old, ← append_assoc (take at old) xs (drop (at + length xs) old)) (sym (sets-eq xs old at h)) }; fits = h }
 
 -- ---- what f gives for each of the first i members of xs
 flat_map-++ : (f : ℕ → List ℕ) (xs ys : List ℕ) → flat_map f (xs ++ ys) ≡ flat_map f xs ++ flat_map f ys
@@ -63,12 +68,3 @@ module _ {f : ℕ → List ℕ} {xs : List ℕ} {at : ℕ} {old : List ℕ} wher
 
   pub putting_end : {place : List ℕ} {end i : ℕ} → length xs ≤ i → Putting f xs at old place end i → Put at (flat_map f xs) old place end
   putting_end {i = i} h p = rw (take_all i xs h) at p.so_far
-
--- ---- each member as it is
-pub each_byte : (xs : List ℕ) → flat_map (λ b. b ∷ []) xs ≡ xs
-unfolding flat_map
-each_byte [] = refl
-each_byte (x ∷ xs) = ap (λ l. x ∷ l) (each_byte xs)
-
-pub bytes_end : {xs old place : List ℕ} {at end i : ℕ} → Putting (λ b. b ∷ []) xs at old place end i → end ≡ at + i
-bytes_end {xs} {at = at} {i = i} p = p.so_far.put.ends ∙ ap (λ n. at + n) (ap length (each_byte (take i xs)) ∙ length-take-le i xs p.within)

@@ -6,18 +6,18 @@ ghost use Rattle.writing.specs.Steps.{record_text, records_text, tabbed, Put};
 use crate::number::{put_byte, put_field, put_number};
 
 // A tab between fields, LF after the last.
-const TAB: u8 = 9;
+const TAB: u8 = b'\t';
 
-const LF: u8 = 10;
+const LF: u8 = b'\n';
 
 // `+` above, `-` below, `0` coloured.
 fn mark_of(colour: u32) -> u8
     ensures { result ≡ mark colour }
 {
     match colour {
-        2 => 43,
-        3 => 45,
-        _ => 48,
+        2 => b'+',
+        3 => b'-',
+        _ => b'0',
     }
 }
 
@@ -39,10 +39,8 @@ pub fn put_records(place: &mut [u8], records: &[u32]) -> usize
     ensures { Put 0 (records_text records.now) place.old place.new result × (result ≤ 16 * length records.now) }
 {
     let mut end = 0;
-    let mut n = 0;
-    while n < records.len() {
-        end = put_record(place, end, records[n]);
-        n += 1;
+    for &item in records {
+        end = put_record(place, end, item);
     }
     end
 }
@@ -52,12 +50,8 @@ pub fn put_word(place: &mut [u8], at: usize, word: &[u8]) -> usize
     requires { at + length word.now ≤ length place.old }
     ensures { Put at word.now place.old place.new result }
 {
-    let mut end = at;
-    let mut i = 0;
-    while i < word.len() {
-        end = put_byte(place, end, word[i]);
-        i += 1;
-    }
+    let end = at + word.len();
+    place[at..end].copy_from_slice(word);
     end
 }
 
@@ -67,11 +61,9 @@ fn put_numbers(place: &mut [u8], at: usize, numbers: &[u32]) -> usize
     ensures { Put at (tabbed numbers.now) place.old place.new result × (result ≤ at + 11 * length numbers.now) }
 {
     let mut end = at;
-    let mut i = 0;
-    while i < numbers.len() {
+    for &n in numbers {
         end = put_byte(place, end, TAB);
-        end = put_number(place, end, numbers[i]);
-        i += 1;
+        end = put_number(place, end, n);
     }
     end
 }

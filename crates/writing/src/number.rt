@@ -18,10 +18,10 @@ pub fn put_number(place: &mut [u8], at: usize, n: u32) -> usize
     ensures { Put at (decimal n) place.old place.new result }
 {
     if n < 10 {
-        return put_byte(place, at, (48 + n) as u8);
+        return put_byte(place, at, b'0' + n as u8);
     }
     let next = put_number(place, at, n / 10);
-    put_byte(place, next, (48 + n % 10) as u8)
+    put_byte(place, next, b'0' + (n % 10) as u8)
 }
 
 // A number and the byte that ends it.

@@ -1,5 +1,4 @@
 -- `writing::lines::put_record` meets its contract: 16 bytes are room for a level of five digits, a column and a row of three, the mark, and what parts and ends them.
-use borrow.Author.Rules.{rules}
 use Prim.Native.Nat.{◌+◌, ◌≤◌}
 use native.Mathlib.Omega.{arith}
 use Rattle.writing.proofs.Fields.{level_short, column_short, field_room, field_end, put_cells}
@@ -19,9 +18,6 @@ put_field-c-requires c =
     let second-end : c.put_field-b.result ≤ c.args.at + 10 = omega (arith, first-end, field_end _ _ _ (column_short _) c.put_field-b.ensures) in
     field_room _ _ _ (column_short _) (omega (arith, second-end))
 
-pub mark_of-requires : goal.mark_of-requires
-mark_of-requires c = search rules
-
 pub put_byte-d-requires : goal.put_byte-d-requires
 put_byte-d-requires c =
     let first-end : c.put_field-a.result ≤ c.args.at + 6 = omega (arith, field_end _ _ _ (level_short _ c.ranges.item.fits) c.put_field-a.ensures) in
@@ -35,9 +31,6 @@ put_byte-requires c =
     let second-end : c.put_field-b.result ≤ c.args.at + 10 = omega (arith, first-end, field_end _ _ _ (column_short _) c.put_field-b.ensures) in
     let third-end : c.put_field-c.result ≤ c.args.at + 14 = omega (arith, second-end, field_end _ _ _ (column_short _) c.put_field-c.ensures) in
     omega (arith, third-end, c.put_byte-d.ensures.put.ends)
-
-pub shape_of-place : goal.shape_of-place
-shape_of-place c = search rules
 
 pub returns : goal.returns
 returns c = put_cells _ _ _ _ c.put_field-a.ensures c.put_field-b.ensures c.put_field-c.ensures (rw c.mark_of.ensures at c.put_byte-d.ensures) c.put_byte.ensures
