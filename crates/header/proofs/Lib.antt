@@ -1,3 +1,4 @@
+pub mod Firsts
 pub mod Passing
 pub mod Sizing
 pub mod Heading

@@ -1,6 +1,6 @@
 // Sizes: digits of any count. Their number is not read above 2^63, which no text has bytes for.
-ghost use Rattle.std.specs.Prelude.{◌≡◌, true, false, ◌+◌, ◌*◌, ◌-◌, ◌^◌, ◌≤◌, min, length};
-ghost use Rattle.page.specs.SheetLine.{is_digit, all_digits, amount};
+ghost use Rattle.std.specs.Prelude.{◌≡◌, true, ◌+◌, ◌*◌, ◌-◌, ◌^◌, ◌≤◌, min, length};
+ghost use Rattle.page.specs.SheetLine.{all_digits, amount};
 ghost use Rattle.header.specs.Steps.{DigitsPassed, SizeTaken};
 
 use crate::Size;
@@ -12,29 +12,15 @@ pub const MOST: u64 = 9_223_372_036_854_775_808;
 // A tenth of it: the largest number to which a digit is added without passing 2^63 by more than that digit.
 const TENTH: u64 = 922_337_203_685_477_580;
 
-// Whether the byte is `0` to `9`.
-fn digit(byte: u8) -> bool
-    ensures { result ≡ is_digit byte }
-{
-    if byte < 48 {
-        return false;
-    }
-    byte <= 57
-}
-
 // Where the digits end that begin at `at`.
 fn digits_end(text: &[u8], at: usize) -> usize
     requires { at ≤ length text.now }
     ensures { DigitsPassed text.now at result }
 {
-    let mut i = at;
-    while i < text.len() {
-        if !digit(text[i]) {
-            return i;
-        }
-        i += 1;
+    match text[at..].iter().position(|byte| !byte.is_ascii_digit()) {
+        Some(count) => at + count,
+        None => text.len(),
     }
-    i
 }
 
 // The number n with one digit more, but not above 2^63.
@@ -45,8 +31,7 @@ fn next(n: u64, byte: u8) -> u64
     if TENTH < n {
         return MOST;
     }
-    let more = 10 * n + (byte - 48) as u64;
-    if more < MOST { more } else { MOST }
+    (10 * n + u64::from(byte - b'0')).min(MOST)
 }
 
 // The number that the digits write, but not above 2^63.
@@ -55,44 +40,28 @@ fn capped_amount(digits: &[u8]) -> u64
     ensures { result ≡ min (amount 0 digits.now) (2 ^ 63) }
 {
     let mut n = 0;
-    let mut i = 0;
-    while i < digits.len() {
-        n = next(n, digits[i]);
-        i += 1;
+    for &byte in digits {
+        n = next(n, byte);
     }
     n
 }
 
-fn no_size() -> Size
-    ensures { (result.good ≡ false) × (result.next ≡ 0) }
-{
-    Size {
-        good: false,
-        value: 0,
-        next: 0,
-    }
-}
-
 // The size after the gap that begins at `at`.
-pub fn size_after(text: &[u8], at: usize) -> Size
+pub fn size_after(text: &[u8], at: usize) -> Option<Size>
     requires { at ≤ length text.now }
     ensures { SizeTaken text.now at result }
 {
     let from = gap_end(text, at);
     let end = digits_end(text, from);
     if from == at {
-        return no_size();
+        return None;
     }
     if end == from {
-        return no_size();
+        return None;
     }
     let value = capped_amount(&text[from..end]);
     if value == 0 {
-        return no_size();
+        return None;
     }
-    Size {
-        good: true,
-        value,
-        next: end,
-    }
+    Some(Size { value, next: end })
 }
