@@ -2,7 +2,9 @@
 // stands the refusal's number; after a 0 stand the values: weight and spare places; or F; or the verdict (1 above, 2 below, 3 open),
 // the lower bound, the upper bound and the bend; or visited, coloured and the largest bend; or the listing's length, and these three. F and
 // the bounds are signed codes. Words not used are 0.
-use words::{code, put};
+use std::io;
+use std::io::Write;
+use words::code;
 
 fn refused(number: u32) -> [u64; 5] {
     [1, number as u64, 0, 0, 0]
@@ -64,13 +66,11 @@ pub fn of_listing(listed: walk::Listed) -> [u64; 5] {
     }
 }
 
-// The answer in bytes, eight for each word, the lowest first.
-pub fn bytes(words: [u64; 5]) -> [u8; 40] {
-    let mut out = [0u8; 40];
-    put(&mut out, 0, words[0]);
-    put(&mut out, 8, words[1]);
-    put(&mut out, 16, words[2]);
-    put(&mut out, 24, words[3]);
-    put(&mut out, 32, words[4]);
-    out
+// Writes the answer, eight bytes for each word, the lowest first.
+pub fn write<W: Write>(to: &mut W, words: [u64; 5]) -> io::Result<()> {
+    let mut out = [0; 40];
+    for (eight, word) in out.chunks_exact_mut(8).zip(words) {
+        eight.copy_from_slice(&word.to_le_bytes());
+    }
+    to.write_all(&out)
 }

@@ -1,74 +1,61 @@
 // A case handed to the call that it names.
-use crate::answer::{of_bounds, of_check, of_value};
-use crate::case::*;
-use crate::coding::{long_signed, long_word, signed, word};
+use crate::answer::{of_bounds, of_check, of_listing, of_raster, of_value};
+use crate::case::Case;
 
-fn check(case: &[u8; 320], coefficients: &[i32]) -> [u64; 5] {
-    let x = signed(word(case, X));
-    let y = signed(word(case, Y));
-    of_check(probe::check(
-        word(case, D),
-        coefficients,
-        x,
-        y,
-        word(case, S),
-        word(case, K),
-    ))
+pub fn check(case: &Case) -> [u64; 5] {
+    of_check(probe::check(case.d, case.coefficients(), case.x, case.y, case.s, case.k))
 }
 
-fn value(case: &[u8; 320], coefficients: &[i32]) -> [u64; 5] {
-    let x = signed(word(case, X));
-    let y = signed(word(case, Y));
-    let u = long_signed(long_word(case, U));
-    let v = long_signed(long_word(case, V));
+pub fn value(case: &Case) -> [u64; 5] {
     of_value(probe::value(
-        word(case, D),
-        coefficients,
-        x,
-        y,
-        word(case, S),
-        word(case, K),
-        u,
-        v,
+        case.d,
+        case.coefficients(),
+        case.x,
+        case.y,
+        case.s,
+        case.k,
+        case.u,
+        case.v,
     ))
 }
 
-fn bounds(case: &[u8; 320], coefficients: &[i32]) -> [u64; 5] {
-    let x = signed(word(case, X));
-    let y = signed(word(case, Y));
-    let mode = word(case, MODE);
-    let j = word(case, J);
-    let p = word(case, P);
-    let q = word(case, Q);
+pub fn bounds(case: &Case) -> [u64; 5] {
     of_bounds(probe::bounds(
-        word(case, D),
-        coefficients,
-        x,
-        y,
-        word(case, S),
-        word(case, K),
-        mode,
-        j,
-        p,
-        q,
+        case.d,
+        case.coefficients(),
+        case.x,
+        case.y,
+        case.s,
+        case.k,
+        case.mode,
+        case.j,
+        case.p,
+        case.q,
     ))
 }
 
-fn named(case: &[u8; 320], coefficients: &[i32]) -> [u64; 5] {
-    let call = word(case, CALL);
-    if call == 0 {
-        check(case, coefficients)
-    } else if call == 1 {
-        value(case, coefficients)
-    } else if call == 2 {
-        bounds(case, coefficients)
-    } else {
-        [2, 0, 0, 0, 0]
-    }
+pub fn raster(case: &Case, place: &mut [u8]) -> [u64; 5] {
+    of_raster(walk::raster(
+        case.d,
+        case.coefficients(),
+        case.x,
+        case.y,
+        case.s,
+        case.k,
+        case.mode,
+        place,
+    ))
 }
 
-pub fn answered(case: &[u8; 320]) -> [u64; 5] {
-    let all = coefficients_of(case);
-    let n = count_of(case);
-    named(case, &all[..n])
+pub fn listing(case: &Case, place: &mut [u32]) -> [u64; 5] {
+    of_listing(walk::listing(
+        case.d,
+        case.coefficients(),
+        case.x,
+        case.y,
+        case.s,
+        case.k,
+        case.mode,
+        place,
+    ))
 }

@@ -1,23 +1,8 @@
 // The numbers of a case, from its words. A negative number is coded as in `words`.
-ghost use Rattle.std.specs.Prelude.{◌<◌};
 
-use words::number;
-
-// The word at place i of a case.
-pub fn word(case: &[u8; 320], i: usize) -> u32
-    requires { i < 80 }
-{
-    let at = 4 * i;
-    number(case[at], case[at + 1], case[at + 2], case[at + 3])
-}
-
-// The number in two words, the lower one at place i.
-pub fn long_word(case: &[u8; 320], i: usize) -> u64
-    requires { i < 79 }
-{
-    let low = word(case, i) as u64;
-    let high = word(case, i + 1) as u64;
-    low + 4294967296 * high
+// The number in two words.
+pub fn long(low: u32, high: u32) -> u64 {
+    u64::from(low) | u64::from(high) << 32
 }
 
 pub fn signed(code: u32) -> i32 {

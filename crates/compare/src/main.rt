@@ -11,34 +11,28 @@ mod case;
 mod coding;
 mod place;
 
+use case::{Call, Case};
+use std::io;
 use std::io::{Read, Write};
 
-// Writes the answer of a call that is lent no place.
-fn plain<W: Write>(to: &mut W, case: &[u8; 320]) -> bool {
-    let out = answer::bytes(call::answered(case));
-    to.write_all(&out).is_ok()
-}
-
-// Reads one case and writes its answer; false where no whole case is left, with its place, or the answer can't be written.
-fn one_case<R: Read, W: Write>(from: &mut R, to: &mut W) -> bool {
-    let mut case = [0u8; 320];
-    if from.read_exact(&mut case).is_err() {
-        return false;
-    }
-    let call = coding::word(&case, case::CALL);
-    if call == 3 {
-        place::raster(from, to, &case)
-    } else if call == 4 {
-        place::listing(from, to, &case)
-    } else {
-        plain(to, &case)
+// Reads one case and writes its answer; an error where no whole case is left, with its place, or the answer can't be written.
+fn one_case<R: Read, W: Write>(from: &mut R, to: &mut W) -> io::Result<()> {
+    let case = Case::read(from)?;
+    match case.call {
+        Call::Check => answer::write(to, call::check(&case)),
+        Call::Value => answer::write(to, call::value(&case)),
+        Call::Bounds => answer::write(to, call::bounds(&case)),
+        Call::Raster => place::raster(from, to, &case),
+        Call::Listing => place::listing(from, to, &case),
+        Call::Unknown => answer::write(to, [2, 0, 0, 0, 0]),
     }
 }
 
-// A proved loop has to end, and nothing says that the input does: the cases are counted down from a number that no run uses up.
+// A proved loop has to end, and nothing says that the input does: the cases are counted up to a number that no run comes to.
 fn main(rt: HostRuntime) {
-    let mut left = u64::MAX;
-    while left > 0 && one_case(&mut rt.stdin(), &mut rt.stdout()) {
-        left -= 1;
+    for _ in 0..u64::MAX {
+        if one_case(&mut rt.stdin(), &mut rt.stdout()).is_err() {
+            break;
+        }
     }
 }
