@@ -4,7 +4,7 @@
 // the bounds are signed codes. Words not used are 0.
 use std::io;
 use std::io::Write;
-use words::code;
+use words::{code, put};
 
 fn refused(number: u32) -> [u64; 5] {
     [1, number as u64, 0, 0, 0]
@@ -69,8 +69,8 @@ pub fn of_listing(listed: walk::Listed) -> [u64; 5] {
 // Writes the answer, eight bytes for each word, the lowest first.
 pub fn write<W: Write>(to: &mut W, words: [u64; 5]) -> io::Result<()> {
     let mut out = [0; 40];
-    for (eight, word) in out.chunks_exact_mut(8).zip(words) {
-        eight.copy_from_slice(&word.to_le_bytes());
+    for (i, word) in words.into_iter().enumerate() {
+        put(&mut out, 8 * i, word);
     }
     to.write_all(&out)
 }

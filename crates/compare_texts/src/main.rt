@@ -11,8 +11,7 @@
 
 mod sheet;
 
-ghost use Rattle.std.specs.Prelude.{◌≡◌, ◌≤◌, length};
-
+use std::io;
 use std::io::{Read, Write};
 
 // The longest text, and the longest place, that is held.
@@ -34,84 +33,52 @@ const LAST: usize = 6;
 // The first number of an item that asks for what `reply::place` makes.
 const MADE: usize = 4_294_967_295;
 
-fn text_space() -> [u8; 262144]
-    ensures { 262144 ≡ length result }
-{
-    [0; 262144]
-}
-
-fn place_space() -> [u8; 262208]
-    ensures { 262208 ≡ length result }
-{
-    [0; 262208]
-}
-
-// Writes the place that `reply::place` makes.
-fn made<W: Write>(to: &mut W) -> bool {
-    let place = reply::place();
-    to.write_all(&place).is_ok()
-}
-
-// Writes what comes of a text, and the first and the last entries of the place; false where that can't be written.
-fn answered<W: Write>(to: &mut W, input: &[u8], place: &mut [u8], first: usize, last: usize) -> bool
-    requires { (first ≤ length place.old) × (last ≤ length place.old) }
-{
-    let n = reply::answer(input, place);
-    let out = sheet::words_of(reading::read(input), n as u64);
-    let from = place.len() - last;
-    to.write_all(&out).is_ok()
-        && to.write_all(&place[..first]).is_ok()
-        && to.write_all(&place[from..]).is_ok()
-}
-
-// Lends `answer` the place; false where the input ends before that is held, or the answer can't be written.
-fn lent<R: Read, W: Write>(
-    from: &mut R,
+// Writes what comes of a text, and the first and the last entries of the place.
+fn answered<W: Write>(
     to: &mut W,
     head: &[u8; 28],
     input: &[u8],
     place: &mut [u8],
-) -> bool {
-    if !items::hold(from, head, BYTE, place) {
-        return false;
-    }
+) -> io::Result<()> {
     let first = items::within(head, FIRST, place.len());
     let last = items::within(head, LAST, place.len());
-    answered(to, input, place, first, last)
+    let n = reply::answer(input, place);
+    let from = place.len() - last;
+    to.write_all(&sheet::words_of(reading::read(input), n as u64))?;
+    to.write_all(&place[..first])?;
+    to.write_all(&place[from..])
 }
 
-// Reads one item and writes what comes of it; false where no whole item is left, or the answer can't be written.
-fn one_item<R: Read, W: Write>(from: &mut R, to: &mut W, text: &mut [u8], place: &mut [u8]) -> bool
-    requires { (length text.old ≡ 262144) × (length place.old ≡ 262208) }
-{
-    let mut head = [0u8; 28];
-    if !items::read(from, &mut head) {
-        return false;
-    }
+// Reads one item and writes what comes of it; an error where no whole item is left, or the answer can't be written.
+fn one_item<R: Read, W: Write>(
+    from: &mut R,
+    to: &mut W,
+    text: &mut [u8],
+    place: &mut [u8],
+) -> io::Result<()> {
+    let mut head = [0; 28];
+    from.read_exact(&mut head)?;
     if items::at(&head, TEXT) == MADE {
-        return made(to);
+        return to.write_all(&reply::place());
     }
-    let n = items::within(&head, TEXT, LONGEST);
-    let entries = items::within(&head, PLACE, ENTRIES);
+    let n = items::within(&head, TEXT, text.len());
+    let entries = items::within(&head, PLACE, place.len());
     let input = &mut text[..n];
-    if !items::read(from, input) {
-        return false;
+    from.read_exact(input)?;
+    let lent = &mut place[..entries];
+    if !items::hold(from, &head, BYTE, lent) {
+        return Err(io::ErrorKind::UnexpectedEof.into());
     }
-    lent(from, to, &head, input, &mut place[..entries])
+    answered(to, &head, input, lent)
 }
 
-// A proved loop has to end, and nothing says that the input does: the items are counted down from a number that no run uses up.
-fn all_items<R: Read, W: Write>(from: &mut R, to: &mut W, text: &mut [u8], place: &mut [u8])
-    requires { (length text.old ≡ 262144) × (length place.old ≡ 262208) }
-{
-    let mut left = u64::MAX;
-    while left > 0 && one_item(from, to, text, place) {
-        left -= 1;
-    }
-}
-
+// A proved loop has to end, and nothing says that the input does: the items are counted up to a number that no run comes to.
 fn main(rt: HostRuntime) {
-    let mut text = text_space();
-    let mut place = place_space();
-    all_items(&mut rt.stdin(), &mut rt.stdout(), &mut text, &mut place);
+    let mut text = [0; LONGEST];
+    let mut place = [0; ENTRIES];
+    for _ in 0..u64::MAX {
+        if one_item(&mut rt.stdin(), &mut rt.stdout(), &mut text, &mut place).is_err() {
+            break;
+        }
+    }
 }
