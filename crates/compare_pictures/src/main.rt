@@ -7,10 +7,9 @@
 // `reply::picture_place` makes: all of it is written, and nothing else. The program ends where the input does.
 #![tactic(auto)]
 
-ghost use Rattle.std.specs.Prelude.{◌≡◌, length};
-
 use printing::Printed;
 use scanning::Scanned;
+use std::io;
 use std::io::{Read, Write};
 use words::put;
 
@@ -28,124 +27,93 @@ const PLACE: usize = 3;
 
 const BYTE: usize = 4;
 
-// The calls: any other number is that of `depict`.
-const WRITE: usize = 0;
-
-const READ: usize = 1;
-
+// The first number of an item that asks for what `reply::picture_place` makes.
 const MADE: usize = 3;
 
-// What a call answers: the number of a refusal, and zero, or 0, and its answer.
 #[derive(Clone, Copy)]
-struct Answer {
-    pub number: u32,
-    pub value: usize,
+enum Call {
+    Write,
+    Read,
+    Depict,
 }
 
-fn space() -> [u8; 65600]
-    ensures { 65600 ≡ length result }
-{
-    [0; 65600]
+impl From<usize> for Call {
+    fn from(number: usize) -> Call {
+        match number {
+            0 => Call::Write,
+            1 => Call::Read,
+            _ => Call::Depict,
+        }
+    }
 }
 
-fn written(k: u32, raster: &[u8], place: &mut [u8]) -> Answer {
+fn written(k: u32, raster: &[u8], place: &mut [u8]) -> Result<usize, u32> {
     match printing::write_pbm(k, raster, place) {
-        Printed::Bytes(value) => Answer { number: 0, value },
-        Printed::Refused(number) => Answer { number, value: 0 },
+        Printed::Bytes(value) => Ok(value),
+        Printed::Refused(number) => Err(number),
     }
 }
 
-fn scanned(text: &[u8], place: &mut [u8]) -> Answer {
+fn scanned(text: &[u8], place: &mut [u8]) -> Result<usize, u32> {
     match scanning::read_pbm(text, place) {
-        Scanned::Depth(k) => Answer {
-            number: 0,
-            value: k as usize,
-        },
-        Scanned::Refused(number) => Answer { number, value: 0 },
+        Scanned::Depth(k) => Ok(k as usize),
+        Scanned::Refused(number) => Err(number),
     }
 }
 
-fn depicted(text: &[u8], place: &mut [u8]) -> Answer {
-    Answer {
-        number: 0,
-        value: reply::depict(text, place),
-    }
-}
-
-fn answer_of(call: usize, k: u32, input: &[u8], place: &mut [u8]) -> Answer {
+fn answer_of(call: Call, k: u32, input: &[u8], place: &mut [u8]) -> Result<usize, u32> {
     match call {
-        WRITE => written(k, input, place),
-        READ => scanned(input, place),
-        _ => depicted(input, place),
+        Call::Write => written(k, input, place),
+        Call::Read => scanned(input, place),
+        Call::Depict => Ok(reply::depict(input, place)),
     }
 }
 
-// Writes an answer and the place; false where that can't be written.
-fn shown<W: Write>(to: &mut W, answer: Answer, place: &[u8]) -> bool {
-    let mut out = [0u8; 16];
-    put(&mut out, 0, answer.number as u64);
-    put(&mut out, 8, answer.value as u64);
-    to.write_all(&out).is_ok() && to.write_all(place).is_ok()
+// Writes an answer, after the number of a refusal, or 0; and the place.
+fn shown<W: Write>(to: &mut W, answer: Result<usize, u32>, place: &[u8]) -> io::Result<()> {
+    let (number, value) = match answer {
+        Ok(value) => (0, value),
+        Err(number) => (number, 0),
+    };
+    let mut out = [0; 16];
+    put(&mut out, 0, u64::from(number));
+    put(&mut out, 8, value as u64);
+    to.write_all(&out)?;
+    to.write_all(place)
 }
 
-// Writes the place that `reply::picture_place` makes.
-fn made<W: Write>(to: &mut W) -> bool {
-    let place = reply::picture_place();
-    to.write_all(&place).is_ok()
-}
-
-// Lends the call the place; false where the input ends before that is held, or the answer can't be written.
-fn lent<R: Read, W: Write>(
+// Reads one item and writes what comes of it; an error where no whole item is left, or the answer can't be written.
+fn one_item<R: Read, W: Write>(
     from: &mut R,
     to: &mut W,
-    head: &[u8; 28],
-    input: &[u8],
+    text: &mut [u8],
     place: &mut [u8],
-) -> bool {
-    if !items::hold(from, head, BYTE, place) {
-        return false;
-    }
-    let answer = answer_of(
-        items::at(head, CALL),
-        items::at(head, DEPTH) as u32,
-        input,
-        place,
-    );
-    shown(to, answer, place)
-}
-
-// Reads one item and writes what comes of it; false where no whole item is left, or the answer can't be written.
-fn one_item<R: Read, W: Write>(from: &mut R, to: &mut W, text: &mut [u8], place: &mut [u8]) -> bool
-    requires { (length text.old ≡ 65600) × (length place.old ≡ 65600) }
-{
-    let mut head = [0u8; 28];
-    if !items::read(from, &mut head) {
-        return false;
-    }
+) -> io::Result<()> {
+    let mut head = [0; 28];
+    from.read_exact(&mut head)?;
     if items::at(&head, CALL) == MADE {
-        return made(to);
+        return to.write_all(&reply::picture_place());
     }
-    let n = items::within(&head, INPUT, LONGEST);
-    let entries = items::within(&head, PLACE, LONGEST);
+    let n = items::within(&head, INPUT, text.len());
+    let entries = items::within(&head, PLACE, place.len());
     let input = &mut text[..n];
-    if !items::read(from, input) {
-        return false;
+    from.read_exact(input)?;
+    let lent = &mut place[..entries];
+    if !items::hold(from, &head, BYTE, lent) {
+        return Err(io::ErrorKind::UnexpectedEof.into());
     }
-    lent(from, to, &head, input, &mut place[..entries])
+    let call = Call::from(items::at(&head, CALL));
+    let k = items::at(&head, DEPTH) as u32;
+    shown(to, answer_of(call, k, input, lent), lent)
 }
 
-// A proved loop has to end, and nothing says that the input does: the items are counted down from a number that no run uses up.
-fn all_items<R: Read, W: Write>(from: &mut R, to: &mut W, text: &mut [u8], place: &mut [u8])
-    requires { (length text.old ≡ 65600) × (length place.old ≡ 65600) }
-{
-    let mut left = u64::MAX;
-    while left > 0 && one_item(from, to, text, place) {
-        left -= 1;
-    }
-}
-
+// A proved loop has to end, and nothing says that the input does: the items are counted up to a number that no run comes to.
 fn main(rt: HostRuntime) {
-    let mut text = space();
-    let mut place = space();
-    all_items(&mut rt.stdin(), &mut rt.stdout(), &mut text, &mut place);
+    let mut text = [0; LONGEST];
+    let mut place = [0; LONGEST];
+    for _ in 0..u64::MAX {
+        if one_item(&mut rt.stdin(), &mut rt.stdout(), &mut text, &mut place).is_err() {
+            break;
+        }
+    }
 }
