@@ -1,4 +1,5 @@
-// The numbers of a case, from its words. A negative number is coded as in `words`.
+// The numbers of a case, from its words. A negative number is coded as in `words`: -1 is 2^31, or 2^63, and -2 is one more. That is not two's
+// complement, so `cast_signed` would read other numbers; and a trait for both widths would only hold the two bodies that stand here.
 
 // The number in two words.
 pub fn long(low: u32, high: u32) -> u64 {
