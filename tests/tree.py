@@ -269,11 +269,24 @@ def axioms_and_holes():
                 yield f"{named(module.file)}:{line} declares functions of C, whose contracts nothing proves"
 
 
+def in_laws(path):
+    """The lines of code that bring in from proofs/ what stands nowhere but in proofs of laws: in what an `impl` gives for a member that a trait of the file
+    declares below its last function."""
+    text = "\n".join(code_of(path))
+    bodies = re.findall(r"^(?:pub )?trait\b[^{]*\{(.*?)^\}", text, re.M | re.S)
+    laws = {name for body in bodies for name in re.findall(r"^ *ghost (\w+): \{", body[max(body.rfind(" fn "), 0):], re.M)}
+    rest = re.sub(r"^( +)ghost (\w+) = \{.*?\};$", lambda found: "" if found[2] in laws else found[0], text, flags=re.M | re.S)
+    words = set(re.findall(NAME, sources.GHOST_USE.sub("", rest)))
+    return {use.line for use in uses(path) if use.items and all(item and name not in words and not {*name.split("◌")} & words for item, name in use.items)}
+
+
 def definitions_alone():
-    """What a reader must believe is in specs/ and in the contracts: nothing of proofs/ is behind them, by whatever path it is named."""
+    """What a reader must believe is in specs/ and in the contracts: nothing of proofs/ is behind them, by whatever path it is named. A law is a statement, and
+    what proves it may be."""
     for path in [path for path in sources.sources() if path.suffix == ".rt" or "specs" in path.relative_to(sources.ROOT).parts]:
+        proving = in_laws(path) if path.suffix == ".rt" else ()
         for number, line in enumerate(code_of(path), 1):
-            if re.search(r"\bproofs\b", KIT_PROOFS.sub("", line)):
+            if number not in proving and re.search(r"\bproofs\b", KIT_PROOFS.sub("", line)):
                 yield f"{named(path)}:{number} rests on something of proofs/"
 
 

@@ -167,6 +167,9 @@ BREAKS = {
         (f"{NUMBERS}:5 {RESTS}", (NUMBERS, "ghost use Rattle.std.specs.Prelude", "ghost use Rattle.walk.proofs.Facts")),
         (f"{NUMBERS}:18 {RESTS}", (NUMBERS, "\nmod within {\n    ghost use Rattle.walk.proofs.Facts as n;\n}\n")),
         (f"{NUMBERS}:12 {RESTS}", (NUMBERS, "{ result ≡", "{ Rattle.walk.proofs.Facts.x result ≡")),
+        (f"{NUMBERS}:6 {RESTS}", (NUMBERS, "{◌≡◌, ◌/◌, ◌≤◌};\n", "{◌≡◌, ◌/◌, ◌≤◌};\nghost use Rattle.page.proofs.Facts.{own_degree};\n"),
+         (NUMBERS, "\ntrait Axis {\n    ghost still: { OwnDegree };\n\n    fn moved(n: u64) -> u64;\n}\n"
+                   "\nstruct Across;\n\nimpl Axis for Across {\n    ghost still = { λ S. own_degree S };\n\n    fn moved(n: u64) -> u64 {\n        n\n    }\n}\n")),
     ],
 
     # ---- what crates rest on
@@ -255,6 +258,10 @@ KEEPS = [
     ("a trait, and a function over it", (NUMBERS, "\ntrait Axis {\n    ghost along: { ℕ → ℕ };\n\n    fn moved(n: u64) -> u64\n        ensures { result ≡ along n };\n}\n"
                                                   "\nstruct Across;\n\nimpl Axis for Across {\n    ghost along = { λ n. n };\n\n    fn moved(n: u64) -> u64 {\n        n\n    }\n}\n"
                                                   "\nfn twice<A: Axis, I: Iterator<Item = [u64; 2]>, const N: usize>(n: u64) -> u64\nwhere\n    A: Drop,\n{\n    A::moved(n)\n}\n")),
+    ("a lemma in the proof of a law",
+     (NUMBERS, "{◌≡◌, ◌/◌, ◌≤◌};\n", "{◌≡◌, ◌/◌, ◌≤◌};\nghost use Rattle.page.proofs.Facts.{own_degree};\n"),
+     (NUMBERS, "\ntrait Axis {\n    fn moved(n: u64) -> u64;\n\n    ghost still: { OwnDegree };\n}\n"
+               "\nstruct Across;\n\nimpl Axis for Across {\n    fn moved(n: u64) -> u64 {\n        n\n    }\n\n    ghost still = { λ S. own_degree S };\n}\n")),
     ("a text with the mark of a comment", (NUMBERS, '\nfn mark() -> [u8; 2] {\n    *b"//"\n}\n')),
     ("a name that is passed on", (PROVED, "{refl}\n", "{refl}\npub use Rattle.std.proofs.Path.{sym}\n")),
     ("the word of a folder in a comment", (SPECS, "-- its degree", "-- see proofs/Facts: its degree")),
