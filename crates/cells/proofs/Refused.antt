@@ -1,6 +1,7 @@
 -- What an answer tells of the refusal's number: where the first step is refused so is the call, by the same refusal, and where it passed the rest decides.
 use mathlib.Core.Path.{◌≡◌, refl, sym, ◌∙◌, ap}
 use Prim.Native.Nat.{ℕ, zero, suc}
+use native.Mathlib.Omega.{arith}
 use Rattle.std.specs.Prelude.{Result, Ok, Err, IsErrAnd}
 use Rattle.page.specs.declared.Refusal.{Refusal}
 use Rattle.page.specs.Numbers.{by_number, answer}
@@ -20,6 +21,10 @@ module _ {X Y : Type 0} (v : X) (w : Y) {e : Refusal} (r : Result Y Refusal) whe
   pub refused_first : (n m : ℕ) → answer n v ≡ Err e → IsErrAnd r (λ x. x ≡ e) → r ≡ answer (or_else n m) w
   refused_first zero m h g = cc
   refused_first (suc n) m h g = refused_same (suc n) h g
+
+pub refused_some : {X : Type 0} (v : X) {e : Refusal} (n : ℕ) → answer n v ≡ Err e → n ≡ 0 → ⊥
+refused_some v zero h z = cc
+refused_some v (suc n) h z = omega arith
 
 -- ---- of a step that passed
 pub passed_none : {X : Type 0} (v : X) {x : X} (n : ℕ) → answer n v ≡ Ok x → n ≡ 0

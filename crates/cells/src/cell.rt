@@ -50,11 +50,3 @@ impl Sheet<'_> {
         form
     }
 }
-
-// Zeros, where there is no form.
-pub fn no_form() -> Form {
-    Form {
-        degree: 0,
-        places: [0; 45],
-    }
-}

@@ -6,5 +6,5 @@ mod cell;
 mod scale;
 mod sheet;
 
-pub use cell::{Cell, no_form};
+pub use cell::Cell;
 pub use sheet::{Sheet, count};

@@ -3,47 +3,59 @@ use mathlib.Core.Path.{◌≡◌, sym, ◌∙◌, ap, ap₂}
 use mathlib.Core.List.{List, ◌++◌}
 use Prim.Native.Nat.{ℕ, ◌^◌}
 use lib.ListN.{length, drop}
+use Rattle.std.specs.Prelude.{Result, Ok, Err, IsErrAnd}
 use Rattle.verdicts.specs.Walking.{raster, records, visited, coloured, largest_bend}
 use Rattle.page.specs.Sheet.{Sheet}
+use Rattle.page.specs.declared.Refusal.{Refusal}
+use Rattle.page.specs.Numbers.{passed}
 use Rattle.page.specs.Refusals.{refusal, to_walk}
+use Rattle.page.proofs.Numbers.{table_named, unless_number}
 use Rattle.page.proofs.Rows.{unless_ap, unless_refused, unless_none}
-use Rattle.walk.specs.declared.Tallied.{Tallied}
-use Rattle.walk.specs.declared.Tallied.TheVariants as Tallied
-use Rattle.walk.specs.declared.Listed.{Listed}
-use Rattle.walk.specs.declared.Listed.TheVariants as Listed
-use Rattle.walk.specs.Answers.{verdicts, tallied, states_tally, reckoned, rastered, listed, states_listing, enumerated, recorded}
+use Rattle.cells.proofs.Refused.{refused_same, refused_some}
+use Rattle.marks.specs.declared.Seen.{Seen}
+use Rattle.walk.specs.declared.Records.{Records}
+use Rattle.walk.specs.Answers.{verdicts, tally, tallied, states_tally, reckoned, rastered, listed, states_listing, enumerated, recorded}
 use Rattle.walk.specs.Promises.{RasterPromise, ListingPromise, OneRaster, OneListing}
 
 -- ---- each promise is kept by the definition's answer and place
-raster_kept : (S : Sheet) (mode : ℕ) (old : List ℕ) {r : Tallied} {now : List ℕ} → r ≡ tallied S mode (length old) → now ≡ rastered S mode old → RasterPromise S mode old r now
-unfolding tallied reckoned
-raster_kept S mode old e p = (e, ap states_tally e ∙ unless_ap states_tally (refusal (to_walk S mode (length old))) _ _, p)
+module _ (S : Sheet) (mode : ℕ) (old : List ℕ) where
+  raster_kept : {r : Result Seen Refusal} {now : List ℕ} → r ≡ tallied S mode (length old) → now ≡ rastered S mode old → RasterPromise S mode old r now
+  unfolding tallied reckoned
+  raster_kept e p = let c = to_walk S mode (length old) in (e, ap states_tally e ∙ unless_ap states_tally (refusal c) _ _ ∙ unless_number _ _ (refusal c) (table_named c), p)
 
-listing_kept : (S : Sheet) (mode : ℕ) (old : List ℕ) {r : Listed} {now : List ℕ} → r ≡ listed S mode (length old) → now ≡ recorded S mode old → ListingPromise S mode old r now
-unfolding listed enumerated
-listing_kept S mode old e p = (e, ap states_listing e ∙ unless_ap states_listing (refusal (to_walk S mode (length old))) _ _, p)
+  listing_kept : {r : Result Records Refusal} {now : List ℕ} → r ≡ listed S mode (length old) → now ≡ recorded S mode old → ListingPromise S mode old r now
+  unfolding listed enumerated
+  listing_kept e p = let c = to_walk S mode (length old) in (e, ap states_listing e ∙ unless_ap states_listing (refusal c) _ _ ∙ unless_number _ _ (refusal c) (table_named c), p)
 
--- where a row holds: its number, and the place as it was
-module _ (S : Sheet) (mode : ℕ) (old : List ℕ) {n : ℕ} (e : n ≡ refusal (to_walk S mode (length old))) (h : n ≡ 0 → ⊥) where
-  pub raster_refused : RasterPromise S mode old (Tallied.Refused n) old
-  unfolding tallied rastered
-  raster_refused = raster_kept S mode old (ap Tallied.Refused e ∙ unless_refused Tallied.Refused _ _ (λ z. h (e ∙ z))) (unless_refused (λ n. old) _ _ (λ z. h (e ∙ z)))
+  -- where a row holds: its refusal, and the place as it was
+  module _ {e : Refusal} (h : passed (refusal (to_walk S mode (length old))) ≡ Err e) where
+    pub raster_refused : {r : Result Seen Refusal} → IsErrAnd r (λ x. x ≡ e) → RasterPromise S mode old r old
+    unfolding tallied rastered
+    raster_refused {r} g = raster_kept (refused_same tt _ r _ h g) (unless_refused (λ n. old) _ _ (refused_some tt _ h))
 
-  pub listing_refused : ListingPromise S mode old (Listed.Refused n) old
-  unfolding listed recorded
-  listing_refused = listing_kept S mode old (ap Listed.Refused e ∙ unless_refused Listed.Refused _ _ (λ z. h (e ∙ z))) (unless_refused (λ n. old) _ _ (λ z. h (e ∙ z)))
+    pub listing_refused : {r : Result Records Refusal} → IsErrAnd r (λ x. x ≡ e) → ListingPromise S mode old r old
+    unfolding listed recorded
+    listing_refused {r} g = listing_kept (refused_same tt _ r _ h g) (unless_refused (λ n. old) _ _ (refused_some tt _ h))
 
--- where none does: the values, and what is written
-module _ (S : Sheet) (mode : ℕ) (old : List ℕ) (e : refusal (to_walk S mode (length old)) ≡ 0) {v c b : ℕ} (tally : (v ≡ visited (verdicts S mode) S.k) × (c ≡ coloured (verdicts S mode) S.k) × (b ≡ largest_bend (verdicts S mode) S.k)) {now : List ℕ} where
-  pub raster_done : now ≡ raster (verdicts S mode) S.k ++ drop (4 ^ S.k) old → RasterPromise S mode old (Tallied.Tally v c b) now
-  unfolding tallied rastered
-  raster_done w = raster_kept S mode old (ap₂ (λ v c. Tallied.Tally v c b) tally.0 tally.1 ∙ ap (Tallied.Tally (visited (verdicts S mode) S.k) (coloured (verdicts S mode) S.k)) tally.2 ∙ unless_none Tallied.Refused _ _ e) (w ∙ unless_none _ _ _ e)
+  -- where none does: the values, and what is written
+  module _ (e : refusal (to_walk S mode (length old)) ≡ 0) {seen : Seen} (t : (seen.visited ≡ visited (verdicts S mode) S.k) × (seen.coloured ≡ coloured (verdicts S mode) S.k) × (seen.bend ≡ largest_bend (verdicts S mode) S.k)) where
+    same : seen ≡ tally S mode
+    same = ap₂ (λ (v c : ℕ). seen_of v c seen.bend) t.0 t.1 ∙ ap (λ (b : ℕ). seen_of (visited (verdicts S mode) S.k) (coloured (verdicts S mode) S.k) b) t.2
+      where
+        seen_of : ℕ → ℕ → ℕ → Seen
+        seen_of v c b = record { visited = v; coloured = c; bend = b }
 
-  pub listing_done : {l : ℕ} → l ≡ length (records (verdicts S mode) S.k) → now ≡ records (verdicts S mode) S.k ++ drop (length (records (verdicts S mode) S.k)) old
-      → ListingPromise S mode old (Listed.Records l v c b) now
-  unfolding listed recorded
-  listing_done {l} long w =
-      listing_kept S mode old (ap₂ (λ l v. Listed.Records l v c b) long tally.0 ∙ ap₂ (Listed.Records (length (records (verdicts S mode) S.k)) (visited (verdicts S mode) S.k)) tally.1 tally.2 ∙ unless_none Listed.Refused _ _ e) (w ∙ unless_none _ _ _ e)
+    pub raster_done : {now : List ℕ} → now ≡ raster (verdicts S mode) S.k ++ drop (4 ^ S.k) old → RasterPromise S mode old (Ok seen) now
+    unfolding tallied rastered
+    raster_done w = raster_kept (rw e (ap Ok same)) (w ∙ unless_none _ _ _ e)
+
+    pub listing_done : {l : ℕ} {now : List ℕ} → l ≡ length (records (verdicts S mode) S.k) → now ≡ records (verdicts S mode) S.k ++ drop (length (records (verdicts S mode) S.k)) old
+        → ListingPromise S mode old (Ok (record { length = l; seen = seen })) now
+    unfolding listed recorded
+    listing_done long w = listing_kept (rw e (ap Ok (ap₂ records_of long same))) (w ∙ unless_none _ _ _ e)
+      where
+        records_of : ℕ → Seen → Records
+        records_of l s = record { length = l; seen = s }
 
 -- ---- and by nothing else
 pub one_raster : OneRaster

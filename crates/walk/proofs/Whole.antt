@@ -31,7 +31,7 @@ use Rattle.local.specs.Form.{Tabled}
 use Rattle.cells.proofs.Making.{held_form}
 use Rattle.cells.proofs.Parts.{whole_near}
 use Rattle.marks.specs.declared.Seen.{Seen}
-use Rattle.walk.specs.declared.Entered.{Entered}
+use Rattle.walk.specs.declared.Records.{Records}
 use Rattle.marks.specs.Steps.{in_block}
 use Rattle.walk.specs.Steps.{Counted, Examined, Recorded, NearForm, Carried}
 
@@ -91,8 +91,8 @@ counted_whole v k r c = (
 )
 
 -- ---- the listing
-pub listing_whole : (v : Verdicts) (k : ℕ) (old now : List ℕ) (r : Entered) → 4 ^ k ≤ length old → Recorded v k 0 0 0 0 old now r
-    → (r.end ≡ length (records v k)) × (now ≡ records v k ++ drop (length (records v k)) old)
+pub listing_whole : (v : Verdicts) (k : ℕ) (old now : List ℕ) (r : Records) → 4 ^ k ≤ length old → Recorded v k 0 0 0 0 old now r
+    → (r.length ≡ length (records v k)) × (now ≡ records v k ++ drop (length (records v k)) old)
 listing_whole v k old now r room h =
     let e : records_from v 0 (k - 0) 0 0 ≡ records v k = ap (λ n. records_from v 0 n 0 0) (Nat.sub-zero k) ∙ records_are v k in let l = (listing_long v k).2 in
     (h.written.ends ∙ Nat.zero-add (length (records_from v 0 (k - 0) 0 0)) ∙ ap length e, h.written.written ∙ ap (sets old 0) e ∙ sets-eq (records v k) old 0 (omega arith) ∙ ap (λ n. records v k ++ drop n old) (Nat.zero-add (length (records v k))))

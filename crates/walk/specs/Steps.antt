@@ -5,21 +5,12 @@ use Rattle.forms.specs.Bounds.{mode_of}
 use Rattle.verdicts.specs.Walking.{Verdicts, colour_of}
 use Rattle.verdicts.specs.Operational.{visited_from, coloured_from, bend_from, records_from, colour_from}
 use Rattle.page.specs.Sheet.{Sheet}
-use Rattle.page.specs.LocalForm.{G}
 use Rattle.page.specs.Bounds.{verdict}
-use Rattle.page.specs.Refusals.{refusal, to_walk}
 use Rattle.marks.specs.Steps.{Painted, in_block}
 use Rattle.cells.specs.Cell.{CellForm, Near}
 use Rattle.local.specs.declared.Form.{Form}
-use Rattle.local.specs.Form.{Tabled}
-use Rattle.walk.specs.declared.Begun.{Begun}
 use Rattle.marks.specs.declared.Seen.{Seen}
-use Rattle.walk.specs.declared.Entered.{Entered}
-
--- ---- `begin`: the number of the table, and where it is 0 the local form of the cell at level 0
-pub record Begins (S : Sheet) (mode entries : ℕ) (r : Begun) : Type 0 where
-  pub number : r.refusal ≡ refusal (to_walk S mode entries)
-  pub form : r.refusal ≡ 0 → Tabled S.d (G S 0 0 0) r.form
+use Rattle.walk.specs.declared.Records.{Records}
 
 -- ---- what is seen of a cell is what the walk counts
 pub record Counted (v : Verdicts) (k level p q : ℕ) (r : Seen) : Type 0 where
@@ -33,8 +24,8 @@ pub record Examined (v : Verdicts) (k level p q : ℕ) (old now : List ℕ) (r :
   pub counted : Counted v k level p q r
 
 -- the cell's records are written from `at` on, and no other entry changes
-pub record Recorded (v : Verdicts) (k level p q at : ℕ) (old now : List ℕ) (r : Entered) : Type 0 where
-  pub written : Written (records_from v level (k - level) p q) at old now r.end
+pub record Recorded (v : Verdicts) (k level p q at : ℕ) (old now : List ℕ) (r : Records) : Type 0 where
+  pub written : Written (records_from v level (k - level) p q) at old now r.length
   pub counted : Counted v k level p q r.seen
 
 -- ---- a form that is carried: near to that of the cell, or the cell's own
@@ -65,9 +56,9 @@ abbrev pub EachCut : Form → ℕ → ℕ → ℕ → ℕ → ℕ → List ℕ �
 EachCut form k mode level p q old now r =
     (S : Sheet) → OwnForm S form k level p q → colour_of (verdict S (mode_of mode) level p q ∷ []) ≡ 1 → Examined (verdict S (mode_of mode)) k level p q old now r
 
-abbrev pub EachRecorded : Form → ℤ → ℤ → ℕ → ℕ → ℕ → ℕ → ℕ → ℕ → List ℕ → List ℕ → Entered → Type 0
+abbrev pub EachRecorded : Form → ℤ → ℤ → ℕ → ℕ → ℕ → ℕ → ℕ → ℕ → List ℕ → List ℕ → Records → Type 0
 EachRecorded form across along k mode level p q at old now r = (S : Sheet) → NearForm S form across along k level p q → Recorded (verdict S (mode_of mode)) k level p q at old now r
 
-abbrev pub EachListed : Form → ℕ → ℕ → ℕ → ℕ → ℕ → ℕ → List ℕ → List ℕ → Entered → Type 0
+abbrev pub EachListed : Form → ℕ → ℕ → ℕ → ℕ → ℕ → ℕ → List ℕ → List ℕ → Records → Type 0
 EachListed form k mode level p q at old now r =
     (S : Sheet) → OwnForm S form k level p q → colour_of (verdict S (mode_of mode) level p q ∷ []) ≡ 1 → Recorded (verdict S (mode_of mode)) k level p q at old now r

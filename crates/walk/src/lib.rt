@@ -3,53 +3,30 @@
 
 mod examine;
 mod list;
-mod opening;
 mod refusals;
 
 ghost use Rattle.page.specs.Sheet.{sheet_of};
 ghost use Rattle.walk.specs.Promises.{RasterPromise, ListingPromise};
 
-use local::Form;
-use marks::Seen;
+use cells::{Cell, Sheet};
+pub use marks::Seen;
+pub use page::Refusal;
 
-// The tally, or a refusal. The bend is the largest among coloured cells.
-#[derive(Clone, Copy)]
-pub enum Tallied {
-    Tally {
-        visited: u32,
-        coloured: u32,
-        bend: u64,
-    },
-    Refused(u32),
-}
+// The whole sheet is the cell at level 0.
+const WHOLE: Cell = Cell {
+    level: 0,
+    column: 0,
+    row: 0,
+};
 
-// The number of records and the tally, or a refusal.
+// A listing: how many records stand in the place, and what the walk has seen.
 #[derive(Clone, Copy)]
-pub enum Listed {
-    Records {
-        length: usize,
-        visited: u32,
-        coloured: u32,
-        bend: u64,
-    },
-    Refused(u32),
-}
-
-// A walk begun: the number of the refusal, and no form; or 0, and the local form of the whole sheet.
-#[derive(Clone, Copy)]
-struct Begun {
-    pub refusal: u32,
-    pub form: Form,
-}
-
-// Where the records written so far end, and what the walk has seen.
-#[derive(Clone, Copy)]
-struct Entered {
-    pub end: usize,
+pub struct Records {
+    pub length: usize,
     pub seen: Seen,
 }
 
-// The raster of a sheet: the byte at q·2^k + p for the finest cell at column p, row q.
+// The raster of a sheet: the byte at q·2^k + p for the finest cell at column p, row q. What the walk has seen is the tally.
 pub fn raster(
     d: u32,
     coefficients: &[i32],
@@ -59,20 +36,21 @@ pub fn raster(
     k: u32,
     mode: u32,
     place: &mut [u8],
-) -> Tallied
+) -> Result<Seen, Refusal>
     ensures { RasterPromise (sheet_of d coefficients.now x y s k) mode place.old result place.new }
 {
-    let begun = opening::begin(d, coefficients, x, y, s, k, mode, place.len());
-    if begun.refusal != 0 {
-        return Tallied::Refused(begun.refusal);
-    }
-    let form = begun.form;
+    let sheet = Sheet {
+        d,
+        coefficients,
+        x,
+        y,
+        s,
+        k,
+    };
+    refusals::check_walk(sheet, mode, place.len())?;
+    let form = sheet.cell_form(WHOLE);
     let seen = examine::examine(place, form, 0, 0, k, mode, 0, 0, 0);
-    Tallied::Tally {
-        visited: seen.visited,
-        coloured: seen.coloured,
-        bend: seen.bend,
-    }
+    Ok(seen)
 }
 
 // The listing of a sheet: one record per cleared or coloured cell in walking order.
@@ -85,20 +63,19 @@ pub fn listing(
     k: u32,
     mode: u32,
     place: &mut [u32],
-) -> Listed
+) -> Result<Records, Refusal>
     ensures { ListingPromise (sheet_of d coefficients.now x y s k) mode place.old result place.new }
 {
-    let begun = opening::begin(d, coefficients, x, y, s, k, mode, place.len());
-    if begun.refusal != 0 {
-        return Listed::Refused(begun.refusal);
-    }
-    let form = begun.form;
-    let entered = list::list_cell(place, 0, form, 0, 0, k, mode, 0, 0, 0);
-    let seen = entered.seen;
-    Listed::Records {
-        length: entered.end,
-        visited: seen.visited,
-        coloured: seen.coloured,
-        bend: seen.bend,
-    }
+    let sheet = Sheet {
+        d,
+        coefficients,
+        x,
+        y,
+        s,
+        k,
+    };
+    refusals::check_walk(sheet, mode, place.len())?;
+    let form = sheet.cell_form(WHOLE);
+    let records = list::list_cell(place, 0, form, 0, 0, k, mode, 0, 0, 0);
+    Ok(records)
 }

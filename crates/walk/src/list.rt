@@ -2,11 +2,11 @@
 ghost use Rattle.std.specs.Prelude.{◌-◌, ◌+◌, ◌^◌, ◌≤◌, ◌<◌, length};
 ghost use Rattle.walk.specs.Steps.{Carried, EachRecorded, Owned, EachListed};
 
-use crate::Entered;
+use crate::Records;
 use local::Form;
 use marks::{bend_of, cell_record, colour_of, cut_cell, one_cell};
 
-// The records of a cell, from `at` on.
+// The records of a cell, from `at` on: how many the place then holds.
 #[cycle(list_cell_list_parts)]
 pub fn list_cell(
     place: &mut [u32],
@@ -19,7 +19,7 @@ pub fn list_cell(
     level: u32,
     p: u32,
     q: u32,
-) -> Entered
+) -> Records
     requires { Carried form across along k level p q × (at + 4 ^ (k - level) ≤ length place.old) }
     ensures { EachRecorded form across along k mode level p q at place.old place.new result }
 {
@@ -34,8 +34,8 @@ pub fn list_cell(
     }
     place[at] = cell_record(colour, level, p, q);
     let seen = one_cell(colour, bend_of(verdict));
-    let end = at + 1;
-    Entered { end, seen }
+    let length = at + 1;
+    Records { length, seen }
 }
 
 // Those of its four parts, in the order lower left, lower right, upper left, upper right.
@@ -49,7 +49,7 @@ fn list_parts(
     level: u32,
     p: u32,
     q: u32,
-) -> Entered
+) -> Records
     requires { Owned form k level p q × (at + 4 ^ (k - level) ≤ length place.old) × (level < k) }
     ensures { EachListed form k mode level p q at place.old place.new result }
 {
@@ -59,9 +59,23 @@ fn list_parts(
     let left = 2 * p;
     let low = 2 * q;
     let a = list_cell(place, at, form, -1, -1, k, mode, next, left, low);
-    let b = list_cell(place, a.end, form, 1, -1, k, mode, next, left + 1, low);
-    let c = list_cell(place, b.end, form, -1, 1, k, mode, next, left, low + 1);
-    let d = list_cell(place, c.end, form, 1, 1, k, mode, next, left + 1, low + 1);
+    let b = list_cell(place, a.length, form, 1, -1, k, mode, next, left + 1, low);
+    let c = list_cell(place, b.length, form, -1, 1, k, mode, next, left, low + 1);
+    let d = list_cell(
+        place,
+        c.length,
+        form,
+        1,
+        1,
+        k,
+        mode,
+        next,
+        left + 1,
+        low + 1,
+    );
     let seen = cut_cell(a.seen, b.seen, c.seen, d.seen);
-    Entered { end: d.end, seen }
+    Records {
+        length: d.length,
+        seen,
+    }
 }
