@@ -117,14 +117,3 @@ module _ {line : List ℕ} {r : Parted} (p : Parts line r) where
 
     pub number_bytes : get_or (numbers_in line) i [] ≡ take (get_or r.ends (i + 1) 0 - (get_or r.ends i 0 + 1)) (drop (get_or r.ends i 0 + 1) line)
     number_bytes = let s : 1 + i ≡ i + 1 = omega arith in get_or-drop 1 (fields line) i [] ∙ ap (λ n. get_or (fields line) n []) s ∙ number_stands.bytes
-
--- ---- a letter alone
-pub not_alone : (letter : ℕ) (f : List ℕ) → (length f ≡ 1 → ⊥) → false ≡ is_letter letter f
-not_alone letter [] h = refl
-not_alone letter (b ∷ []) h = absurd (h refl)
-not_alone letter (b ∷ d ∷ f) h = sym (and-false (eqb b letter))
-
-pub alone : (letter : ℕ) (f : List ℕ) → length f ≡ 1 → eqb (get_or f 0 0) letter ≡ is_letter letter f
-alone letter [] h = absurd (omega arith)
-alone letter (b ∷ []) h = sym (and-true (eqb b letter))
-alone letter (b ∷ d ∷ f) h = absurd (omega arith)

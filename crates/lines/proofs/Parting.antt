@@ -5,10 +5,14 @@ use mathlib.Core.List.{List, [], ◌∷◌}
 use Prim.Native.Nat.{ℕ, suc, ◌+◌, ◌-◌, ◌≤◌, ◌<◌}
 use native.Mathlib.Nat as Nat
 use native.Mathlib.Omega.{arith}
-use borrow.Author.Tests.{ltb-true, ltb-false, eq-eqb, ne_eqb}
+use borrow.Author.Tests.{ltb-true, ltb-false}
 use lib.Dec.{ltb, eqb}
-use lib.ListN.{length, get_or, take, drop, length-drop, drop_of_length-le}
-use lib.Seq.{take_all, drop-cons, drop-drop}
+use lib.ListN.{length, take, drop, length-drop, drop_of_length-le}
+use lib.Seq.{take_all, drop-drop}
+use Rattle.std.specs.Prelude.{◌==◌, Option, Some, None, position}
+use Rattle.std.specs.List.{position_or_len}
+use Rattle.std.proofs.lemmas.List.Recursion.{is_position_or_len}
+use borrow.Author.Rules.{part_to_end}
 use Rattle.page.specs.SheetLine.{before_line, lines, before_field, fields}
 use Rattle.lines.specs.Steps.{line_of, index_of, Finds}
 
@@ -24,6 +28,15 @@ index_end c = refl
 index_on : (c x : ℕ) (l : List ℕ) → eqb x c ≡ false → index_of c (x ∷ l) ≡ suc (index_of c l)
 unfolding index_of
 index_on c x l e = rw e
+
+index_within : (c : ℕ) (l : List ℕ) → index_of c l ≤ length l
+unfolding index_of
+index_within c [] = omega arith
+index_within c (x ∷ l) = by (eqb x c) (index_within c l)
+  where
+    by : (b : Bool) → index_of c l ≤ length l → cond b 0 (suc (index_of c l)) ≤ length (x ∷ l)
+    by true k = omega arith
+    by false k = omega arith
 
 -- ---- bytes in parts: c ends one, and any other byte goes before the first
 module _ {X : Type 0} (c : ℕ) (parts : List ℕ → List X) (before : ℕ → List X → List X) (whole last : List ℕ → X)
@@ -92,32 +105,34 @@ line_last (x ∷ l) s h = uncut 10 lines before_line (λ bs. line_of bs true) (�
 abbrev pub fields_after : List ℕ → ℕ → List (List ℕ)
 fields_after line at = cond (ltb at (length line)) (fields (drop (at + 1) line)) []
 
--- ---- `find`: none of the bytes before a place is c
-pub record Seeking (c : ℕ) (l : List ℕ) (from at : ℕ) : Type 0 where
-  pub begun : from ≤ at
-  pub inside : at ≤ length l
-  pub passed : from + index_of c (drop from l) ≡ at + index_of c (drop at l)
+-- ---- `find`: the place of the first c in what is left, or none
+index_is : (c : ℕ) (l : List ℕ) → index_of c l ≡ position_or_len (λ b. b == c) l
+unfolding index_of
+index_is c l = is_position_or_len (index_of c) (λ b. b == c) refl (λ x xs. ap (cond (eqb x c) 0) (omega arith)) l
 
-pub seeking_start : {c : ℕ} {l : List ℕ} {from : ℕ} → from ≤ length l → Seeking c l from from
-seeking_start h = record { begun = omega arith; inside = h; passed = refl }
+module _ (c : ℕ) (l : List ℕ) (from : ℕ) (h : from ≤ length l) {r : Option ℕ} (e : r ≡ position (λ b. b == c) (take (length l - from) (drop from l))) where
+  placed : r ≡ cond (ltb (index_of c (drop from l)) (length (drop from l))) (Some (index_of c (drop from l))) None
+  placed =
+      e ∙ ap (position (λ b. b == c)) (part_to_end l from)
+      ∙ ap (λ n. cond (ltb n (length (drop from l))) (Some n) None) (sym (index_is c (drop from l)))
 
-module _ {c : ℕ} {l : List ℕ} {from at : ℕ} (s : Seeking c l from at) where
-  pub seeking_found : at < length l → get_or l at 0 ≡ c → Finds c l from at
-  seeking_found h e =
-      let z : index_of c (drop at l) ≡ 0 = ap (index_of c) (drop-cons l at 0 h) ∙ index_here c (get_or l at 0) (drop (suc at) l) (eq-eqb (get_or l at 0) c e) in
-      let p = s.passed in let b = s.begun in record { at = omega arith; within = s.inside; after = omega arith }
+  pub finds_some : {n : ℕ} → r ≡ Some n → Finds c l from (from + n)
+  finds_some {n} s = by (ltb (index_of c (drop from l)) (length (drop from l))) refl (sym placed ∙ s)
+    where
+      by : (b : Bool) → ltb (index_of c (drop from l)) (length (drop from l)) ≡ b → cond b (Some (index_of c (drop from l))) None ≡ Some n → Finds c l from (from + n)
+      by true t q =
+          let k : index_of c (drop from l) ≡ n = cc in let m = ltb-true (index_of c (drop from l)) (length (drop from l)) t in let d = length-drop from l in
+          record { at = omega arith; within = omega arith; after = h }
+      by false t q = cc
 
-  pub seeking_next : at < length l → (get_or l at 0 ≡ c → ⊥) → Seeking c l from (at + 1)
-  seeking_next h n =
-      let e : suc at ≡ at + 1 = omega arith in
-      let z : index_of c (drop at l) ≡ suc (index_of c (drop (at + 1) l)) =
-      ap (index_of c) (drop-cons l at 0 h) ∙ index_on c (get_or l at 0) (drop (suc at) l) (ne_eqb (get_or l at 0) c n) ∙ ap (λ m. suc (index_of c (drop m l))) e in
-      let p = s.passed in let b = s.begun in record { begun = omega arith; inside = omega arith; passed = omega arith }
-
-  pub seeking_end : length l ≤ at → Finds c l from at
-  seeking_end h =
-      let z : index_of c (drop at l) ≡ 0 = ap (index_of c) (drop_of_length-le l {i = at} h) ∙ index_end c in
-      let p = s.passed in let b = s.begun in record { at = omega arith; within = s.inside; after = omega arith }
+  pub finds_none : r ≡ None → Finds c l from (length l)
+  finds_none s = by (ltb (index_of c (drop from l)) (length (drop from l))) refl (sym placed ∙ s)
+    where
+      by : (b : Bool) → ltb (index_of c (drop from l)) (length (drop from l)) ≡ b → cond b (Some (index_of c (drop from l))) None ≡ None → Finds c l from (length l)
+      by true t q = cc
+      by false t q =
+          let k = index_within c (drop from l) in let m = ltb-false (index_of c (drop from l)) (length (drop from l)) t in let d = length-drop from l in
+          record { at = omega arith; within = omega arith; after = h }
 
 -- ---- what a field and a line are, by where they end
 module _ (l : List ℕ) (from end : ℕ) where

@@ -1,39 +1,15 @@
 // Numbers as they are written in a field: decimal, no plus, no leading zero, no `-0`, within signed 32 bits.
-ghost use Rattle.std.specs.Prelude.{◌≡◌, true, cond, ◌^◌, min};
-ghost use Rattle.page.specs.SheetLine.{is_digit, is_decimal, is_minus, all_digits, amount};
-ghost use Rattle.lines.specs.Steps.{number_in, single_in, signless_in, minus_in};
+ghost use Rattle.std.specs.Prelude.{◌≡◌, true, ◌^◌, min};
+ghost use Rattle.page.specs.SheetLine.{is_decimal, is_minus, all_digits, amount};
+ghost use Rattle.lines.specs.Steps.{number_in, single_in, signless_in, minus_in, decimal_in};
 
-use crate::Number;
-
-// A byte's number.
-fn wide(byte: u8) -> u64
-    ensures { result ≡ byte }
-{
-    byte as u64
-}
-
-// Whether the byte is `0` to `9`.
-fn digit(byte: u8) -> bool
-    ensures { result ≡ is_digit byte }
-{
-    if byte < 48 {
-        return false;
-    }
-    byte <= 57
-}
+use page::Refusal;
 
 // Whether all bytes are digits.
 fn digits_only(digits: &[u8]) -> bool
     ensures { result ≡ all_digits digits.now }
 {
-    let mut i = 0;
-    while i < digits.len() {
-        if !digit(digits[i]) {
-            return false;
-        }
-        i += 1;
-    }
-    true
+    digits.iter().all(|b| b.is_ascii_digit())
 }
 
 // Whether the bytes are `0`, or digits of which the first is not 0.
@@ -44,19 +20,10 @@ fn decimal(digits: &[u8]) -> bool
     if count == 0 {
         return false;
     }
-    if 1 < count {
-        if digits[0] == 48 {
-            return false;
-        }
+    if 1 < count && digits[0] == b'0' {
+        return false;
     }
     digits_only(digits)
-}
-
-// The least of n and 2^32.
-fn capped(n: u64) -> u64
-    ensures { result ≡ min n (2 ^ 32) }
-{
-    if n < 4_294_967_296 { n } else { 4_294_967_296 }
 }
 
 // The number that the digits write, but not above 2^32: so digits of any count are read.
@@ -64,84 +31,75 @@ fn capped_amount(digits: &[u8]) -> u64
     requires { all_digits digits.now ≡ true }
     ensures { result ≡ min (amount 0 digits.now) (2 ^ 32) }
 {
-    let mut n = 0;
-    let mut i = 0;
-    while i < digits.len() {
-        n = capped(10 * n + (wide(digits[i]) - 48));
-        i += 1;
+    let mut n = 0u64;
+    for &byte in digits {
+        n = (10 * n + u64::from(byte - b'0')).min(4_294_967_296);
     }
     n
+}
+
+// The same, or that the digits are badly written.
+fn written(digits: &[u8]) -> Result<u64, Refusal>
+    ensures { result ≡ decimal_in digits.now }
+{
+    if !decimal(digits) {
+        return Err(Refusal::Written);
+    }
+    Ok(capped_amount(digits))
 }
 
 // Whether the field begins with `-`.
 fn minus(field: &[u8]) -> bool
     ensures { result ≡ is_minus field.now }
 {
-    if field.len() == 0 {
-        return false;
-    }
-    field[0] == 45
-}
-
-// Where the digits begin: after the sign.
-fn start(sign: bool) -> usize
-    ensures { result ≡ cond sign 1 0 }
-{
-    if sign { 1 } else { 0 }
+    field.first() == Some(&b'-')
 }
 
 // The number n, or that it is outside 32 bits.
-fn signless(n: u64) -> Number
+fn signless(n: u64) -> Result<i32, Refusal>
     ensures { result ≡ signless_in n }
 {
     if 2_147_483_647 < n {
-        return Number::Outside;
+        return Err(Refusal::Within);
     }
-    Number::Whole(n as i32)
+    Ok(n as i32)
 }
 
 // The number -n; or that it is badly written, where n is 0; or outside, where 32 bits do not hold it or no negative number may stand.
-fn below_zero(n: u64, negative: bool) -> Number
+fn below_zero(n: u64, negative: bool) -> Result<i32, Refusal>
     ensures { result ≡ minus_in negative n }
 {
     if n == 0 {
-        return Number::Malformed;
+        return Err(Refusal::Written);
     }
     if !negative {
-        return Number::Outside;
+        return Err(Refusal::Within);
     }
     if 2_147_483_648 < n {
-        return Number::Outside;
+        return Err(Refusal::Within);
     }
-    Number::Whole(!((n - 1) as i32))
+    Ok(!((n - 1) as i32))
 }
 
 // What a field of one byte holds: a digit is its own number.
-fn single(byte: u8) -> Number
+fn single(byte: u8) -> Result<i32, Refusal>
     ensures { result ≡ single_in byte }
 {
-    if !digit(byte) {
-        return Number::Malformed;
+    if !byte.is_ascii_digit() {
+        return Err(Refusal::Written);
     }
-    Number::Whole((byte - 48) as i32)
+    Ok(i32::from(byte - b'0'))
 }
 
 // What the field holds, where `negative` says whether it may be negative.
-pub fn number(field: &[u8], negative: bool) -> Number
+pub fn number(field: &[u8], negative: bool) -> Result<i32, Refusal>
     ensures { result ≡ number_in negative field.now }
 {
     if field.len() == 1 {
         return single(field[0]);
     }
-    let sign = minus(field);
-    let from = start(sign);
-    let digits = &field[from..];
-    if !decimal(digits) {
-        return Number::Malformed;
+    if minus(field) {
+        return below_zero(written(&field[1..])?, negative);
     }
-    let n = capped_amount(digits);
-    if sign {
-        return below_zero(n, negative);
-    }
-    signless(n)
+    signless(written(field)?)
 }

@@ -6,7 +6,7 @@ ghost use Rattle.lines.specs.Steps.{Parts};
 use crate::Parted;
 use crate::finding::find;
 
-const TAB: u8 = 9;
+const TAB: u8 = b'\t';
 
 // How many fields there are, 5 where there are more than four, and where the first four end.
 pub fn part(line: &[u8]) -> Parted
@@ -17,6 +17,7 @@ pub fn part(line: &[u8]) -> Parted
     let mut at = find(line, 0, TAB);
     ends[0] = at;
     let mut count = 1;
+    // a while: it goes by where a field ends, and may stop with the line before four have
     while at < n {
         if count == 4 {
             return Parted { count: 5, ends };
@@ -32,8 +33,5 @@ pub fn part(line: &[u8]) -> Parted
 pub fn letter_alone(field: &[u8], letter: u8) -> bool
     ensures { result ≡ is_letter letter field.now }
 {
-    if field.len() != 1 {
-        return false;
-    }
-    field[0] == letter
+    matches!(field, [byte] if *byte == letter)
 }

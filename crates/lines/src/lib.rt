@@ -8,27 +8,26 @@ mod finding;
 mod line;
 
 pub use line::take_line;
+use page::Refusal;
 
-// What a field holds: a number; one outside 32 bits, or negative where it may not be; or none.
-#[derive(Clone, Copy)]
-enum Number {
-    Whole(i32),
-    Outside,
-    Malformed,
-}
-
-// How many fields a line has, 5 where it has more than four, and where the first four end.
+// How many fields a line has, 5 where it has more than four, and where the first four end: there is no heap to hold the fields in.
 #[derive(Clone, Copy)]
 struct Parted {
     pub count: usize,
     pub ends: [usize; 4],
 }
 
-// What a line comes to: the number and the field of its first fault, zeros where it has none; and how many of its numbers were read, and these.
+// What is wrong with a line, and at which field, counted from 1; field 0 where none is meant.
+#[derive(Clone, Copy)]
+pub struct Fault {
+    pub refusal: Refusal,
+    pub field: u32,
+}
+
+// What a line comes to: its first fault, if it has one; and how many of its numbers were read, and these, which are told beside a fault too.
 #[derive(Clone, Copy)]
 struct Numbers {
-    pub fault: u32,
-    pub field: u32,
+    pub fault: Option<Fault>,
     pub read: usize,
     pub values: [i32; 3],
 }
@@ -36,8 +35,7 @@ struct Numbers {
 // The same of a line of a text, and where the next line begins.
 #[derive(Clone, Copy)]
 pub struct Taken {
-    pub fault: u32,
-    pub field: u32,
+    pub fault: Option<Fault>,
     pub next: usize,
     pub read: usize,
     pub values: [i32; 3],

@@ -5,49 +5,43 @@ ghost use Rattle.lines.specs.Steps.{fault_after, opening_by, LineRead, none_at, 
 use crate::digits::number;
 use crate::fields::{letter_alone, part};
 use crate::finding::find;
-use crate::{Number, Numbers, Taken};
+use crate::{Fault, Numbers, Taken};
+use page::Refusal;
 
-const LF: u8 = 10;
+const LF: u8 = b'\n';
 
 // The fault of the field that comes after `read` numbers, which is field read + 2.
-fn field_fault(fault: u32, read: usize, values: [i32; 3]) -> Numbers
+fn field_fault(refusal: Refusal, read: usize, values: [i32; 3]) -> Numbers
     requires { read ≤ 3 }
-    ensures { result ≡ fault_after fault read values }
+    ensures { result ≡ fault_after refusal read values }
 {
     Numbers {
-        fault,
-        field: (read + 2) as u32,
+        fault: Some(Fault {
+            refusal,
+            field: (read + 2) as u32,
+        }),
         read,
         values,
     }
 }
 
 // What is wrong before a number is read: the letter is tried, and after it the count of fields.
-fn opening(right: bool, count: usize, asked: usize) -> Numbers
+fn opening(right: bool, count: usize, asked: usize) -> Option<Fault>
     ensures { result ≡ opening_by right count asked }
 {
     if !right {
-        return Numbers {
-            fault: 14,
+        return Some(Fault {
+            refusal: Refusal::Letter,
             field: 1,
-            read: 0,
-            values: [0; 3],
-        };
+        });
     }
     if count != asked {
-        return Numbers {
-            fault: 15,
+        return Some(Fault {
+            refusal: Refusal::Fields,
             field: 0,
-            read: 0,
-            values: [0; 3],
-        };
+        });
     }
-    Numbers {
-        fault: 0,
-        field: 0,
-        read: 0,
-        values: [0; 3],
-    }
+    None
 }
 
 // What a line comes to that has to begin with the letter and to hold `count` numbers, each negative only where `signs` says so.
@@ -58,29 +52,22 @@ fn numbers_of(line: &[u8], letter: u8, count: usize, signs: [bool; 3]) -> Number
     let parted = part(line);
     let ends = parted.ends;
     let right = letter_alone(&line[..ends[0]], letter);
-    let opened = opening(right, parted.count, count + 1);
-    if opened.fault != 0 {
-        return opened;
-    }
     let mut values = [0i32; 3];
-    let mut i = 0;
-    while i < count {
+    if let Some(fault) = opening(right, parted.count, count + 1) {
+        return Numbers {
+            fault: Some(fault),
+            read: 0,
+            values,
+        };
+    }
+    for i in 0..count {
         match number(&line[ends[i] + 1..ends[i + 1]], signs[i]) {
-            Number::Whole(value) => {
-                values[i] = value;
-            }
-            Number::Outside => {
-                return field_fault(17, i, values);
-            }
-            Number::Malformed => {
-                return field_fault(16, i, values);
-            }
+            Ok(value) => values[i] = value,
+            Err(refusal) => return field_fault(refusal, i, values),
         }
-        i += 1;
     }
     Numbers {
-        fault: 0,
-        field: 0,
+        fault: None,
         read: count,
         values,
     }
@@ -91,8 +78,10 @@ fn no_line(at: usize) -> Taken
     ensures { result ≡ none_at at }
 {
     Taken {
-        fault: 14,
-        field: 0,
+        fault: Some(Fault {
+            refusal: Refusal::Letter,
+            field: 0,
+        }),
         next: at,
         read: 0,
         values: [0; 3],
@@ -108,24 +97,17 @@ fn closed(line: Numbers, end: usize, n: usize) -> Taken
     if end < n {
         return Taken {
             fault: line.fault,
-            field: line.field,
             next: end + 1,
             read: line.read,
             values,
         };
     }
-    if line.fault != 0 {
-        return Taken {
-            fault: line.fault,
-            field: line.field,
-            next: end,
-            read: line.read,
-            values,
-        };
-    }
-    Taken {
-        fault: 20,
+    let unended = Fault {
+        refusal: Refusal::Unended,
         field: 0,
+    };
+    Taken {
+        fault: line.fault.or(Some(unended)),
         next: end,
         read: line.read,
         values,

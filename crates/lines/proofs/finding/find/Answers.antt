@@ -1,15 +1,9 @@
--- `lines::finding::find` meets its contract: the bytes are passed one by one.
-use Rattle.lines.proofs.Parting.{seeking_start, seeking_found, seeking_next, seeking_end}
+-- `lines::finding::find` meets its contract: by the place in what is left, or at the end.
+use Rattle.lines.proofs.Parting.{finds_some, finds_none}
 use Rattle.lines.proofs.finding.find.Goals as goal
 
-pub loop-at-init : goal.loop-at-init
-loop-at-init c = seeking_start c.requires
+pub returns-in-Some : goal.returns-in-Some
+returns-in-Some c = finds_some _ _ _ c.requires c.place.ensures c.in-Some.is
 
-pub loop-at-preserved : goal.loop-at-preserved
-loop-at-preserved c = seeking_next c.loop-at.invariant c.loop-at-test.true c.if-text-at.false
-
-pub returns : goal.returns
-returns c = seeking_end c.loop-at.invariant c.loop-at-test.false
-
-pub returns-then-text-at : goal.returns-then-text-at
-returns-then-text-at c = seeking_found c.loop-at.invariant c.loop-at-test.true c.if-text-at.true
+pub returns-in-None : goal.returns-in-None
+returns-in-None c = finds_none _ _ _ c.requires c.place.ensures c.in-None.is

@@ -1,7 +1,6 @@
 use mathlib.Core.Path.{◌≡◌}
 use mathlib.Core.Bool.{true}
 use mathlib.Core.List.{[]}
-use Prim.Native.Nat.{◌-◌}
 use lib.ListN.{get_or, take}
 use Rattle.page.specs.SheetLine.{fields, is_letter}
 use Rattle.lines.proofs.Ending.{numbers_in}
@@ -10,6 +9,3 @@ use Rattle.lines.proofs.line.numbers_of.Given as goal
 
 abbrev pub invariant-loop-i : goal.invariant-loop-i
 invariant-loop-i l = (is_letter l.letter (get_or (fields l.line) 0 []) ≡ true) × Reading (take l.count l.signs) (numbers_in l.line) l.values l.i
-
-abbrev pub decreases-loop-i : goal.decreases-loop-i
-decreases-loop-i l = l.count - l.i

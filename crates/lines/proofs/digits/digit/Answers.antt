@@ -1,9 +1,0 @@
--- `lines::digits::digit` meets its contract, by the tests.
-use borrow.Author.Tests.{le-leb, lt-leb}
-use Rattle.lines.proofs.digits.digit.Goals as goal
-
-pub returns-then-byte-lt48 : goal.returns-then-byte-lt48
-returns-then-byte-lt48 c = rw (lt-leb 48 c.args.byte c.if-byte-lt48.true)
-
-pub returns : goal.returns
-returns c = rw (le-leb 48 c.args.byte c.if-byte-lt48.false)
