@@ -12,6 +12,9 @@ use lib.ListN.{length, get_or, set, replicate, length-set, length-replicate, get
 use lib.Seq.{get_or-set_same, get_or-set_other}
 use Rattle.algebra.proofs.Choice.{same_test, and_left, and_right, and_both}
 use Rattle.page.proofs.Rows.{or_both}
+use Rattle.std.specs.Prelude.{Result, Ok, Err}
+use Rattle.page.specs.declared.Refusal.{Refusal}
+use Rattle.page.specs.declared.Refusal.TheVariants.{Beyond, Twice}
 use Rattle.page.specs.SheetText.{Term, is_term, is_named, is_beyond}
 use Rattle.reading.specs.Steps.{place_of, term_fault_in, Tables}
 
@@ -49,42 +52,42 @@ module _ (d i j : ℕ) where
       let (a, c) = or_both (ltb d (i + j) || ltb 8 i) (ltb 8 j) e in let (s, b) = or_both (ltb d (i + j)) (ltb 8 i) a in
       (ltb-false 8 i b, ltb-false 8 j c, ltb-false d (i + j) s)
 
-  -- 18 where it is not
-  pub beyond_18 : (i ≤ 8 → j ≤ 8 → i + j ≤ d → ⊥) → (named : List ℕ) → 18 ≡ term_fault_in d i j named
+  -- it is beyond the degree, where it is not
+  pub beyond_degree : (i ≤ 8 → j ≤ 8 → i + j ≤ d → ⊥) → (named : List ℕ) → Err Beyond ≡ term_fault_in d i j named
   unfolding term_fault_in
-  beyond_18 h named = by (is_beyond d i j) refl _
+  beyond_degree h named = by (is_beyond d i j) refl _
     where
-      by : (b : Bool) → is_beyond d i j ≡ b → (n : ℕ) → 18 ≡ cond b 18 n
+      by : (b : Bool) → is_beyond d i j ≡ b → (n : Result Unit Refusal) → Err Beyond ≡ cond b (Err Beyond) n
       by true e n = refl
       by false e n = let (p, q, r) = not_beyond e in absurd (h p q r)
 
   -- and else by the mark at its own place
   module _ (h : i ≤ 8) (k : j ≤ 8) (l : i + j ≤ d) (named : List ℕ) {at : ℕ} (here : at ≡ place_of i j) where
-    not_18 : term_fault_in d i j named ≡ cond (eqb (get_or named at 0) 0) 0 19
+    by_mark : term_fault_in d i j named ≡ cond (eqb (get_or named at 0) 0) (Ok tt) (Err Twice)
     unfolding term_fault_in
-    not_18 = let a = le-ltb d (i + j) l in let b = le-ltb 8 i h in let c = le-ltb 8 j k in rw (a, b, c) (ap (λ n. cond (eqb (get_or named n 0) 0) 0 19) (sym here))
+    by_mark = let a = le-ltb d (i + j) l in let b = le-ltb 8 i h in let c = le-ltb 8 j k in rw (a, b, c) (ap (λ n. cond (eqb (get_or named n 0) 0) (Ok tt) (Err Twice)) (sym here))
 
-    pub marked_19 : (get_or named at 0 ≡ 0 → ⊥) → 19 ≡ term_fault_in d i j named
-    marked_19 n = sym (not_18 ∙ ap (λ b. cond b 0 19) (ne_eqb (get_or named at 0) 0 n))
+    pub marked_twice : (get_or named at 0 ≡ 0 → ⊥) → Err Twice ≡ term_fault_in d i j named
+    marked_twice n = sym (by_mark ∙ ap (λ b. cond b (Ok tt) (Err Twice)) (ne_eqb (get_or named at 0) 0 n))
 
-    pub unmarked_0 : get_or named at 0 ≡ 0 → 0 ≡ term_fault_in d i j named
-    unmarked_0 e = sym (not_18 ∙ ap (λ b. cond b 0 19) (eq-eqb (get_or named at 0) 0 e))
+    pub unmarked : get_or named at 0 ≡ 0 → Ok tt ≡ term_fault_in d i j named
+    unmarked e = sym (by_mark ∙ ap (λ b. cond b (Ok tt) (Err Twice)) (eq-eqb (get_or named at 0) 0 e))
 
   -- a term with no fault has its place in the tables
-  pub faultless : (named : List ℕ) → term_fault_in d i j named ≡ 0 → (i ≤ 8) × (j ≤ 8)
+  pub faultless : (named : List ℕ) → term_fault_in d i j named ≡ Ok tt → (i ≤ 8) × (j ≤ 8)
   unfolding term_fault_in
   faultless named = by (is_beyond d i j) refl _
     where
-      by : (b : Bool) → is_beyond d i j ≡ b → (n : ℕ) → cond b 18 n ≡ 0 → (i ≤ 8) × (j ≤ 8)
-      by true e n z = absurd (omega arith)
+      by : (b : Bool) → is_beyond d i j ≡ b → (n : Result Unit Refusal) → cond b (Err Beyond) n ≡ Ok tt → (i ≤ 8) × (j ≤ 8)
+      by true e n z = cc
       by false e n z = let (p, q, _) = not_beyond e in (p, q)
 
--- the number of a term's fault, by what the text has named
-abbrev pub fault_number : Bool → Bool → ℕ
-fault_number beyond twice = cond beyond 18 (cond twice 19 0)
+-- a term's fault, by what the text has named
+abbrev pub fault_told : Bool → Bool → Result Unit Refusal
+fault_told beyond twice = cond beyond (Err Beyond) (cond twice (Err Twice) (Ok tt))
 
 -- a mark, and the marks of two
-marked : (b : Bool) → ◌≡◌ {A = ℕ} (cond (eqb (cond b 1 0) 0) 0 19) (cond b 19 0)
+marked : (b : Bool) → ◌≡◌ {A = Result Unit Refusal} (cond (eqb (cond b 1 0) 0) (Ok tt) (Err Twice)) (cond b (Err Twice) (Ok tt))
 marked true = refl
 marked false = refl
 
@@ -94,13 +97,13 @@ either false b = refl
 
 module _ {ts : List Term} {values : List ℤ} {named : List ℕ} (tables : Tables ts values named) where
   -- the marks say which terms the text has named
-  pub fault_in_text : (d i j : ℕ) → term_fault_in d i j named ≡ fault_number (is_beyond d i j) (is_named i j ts)
+  pub fault_in_text : (d i j : ℕ) → term_fault_in d i j named ≡ fault_told (is_beyond d i j) (is_named i j ts)
   unfolding term_fault_in
   fault_in_text d i j = by (is_beyond d i j) refl
     where
-      by : (b : Bool) → is_beyond d i j ≡ b → cond b 18 (cond (eqb (get_or named (place_of i j) 0) 0) 0 19) ≡ fault_number b (is_named i j ts)
+      by : (b : Bool) → is_beyond d i j ≡ b → cond b (Err Beyond) (cond (eqb (get_or named (place_of i j) 0) 0) (Ok tt) (Err Twice)) ≡ fault_told b (is_named i j ts)
       by true e = refl
-      by false e = let (p, q, _) = not_beyond d i j e in ap (λ n. cond (eqb n 0) 0 19) (tables.names i j p q) ∙ marked (is_named i j ts)
+      by false e = let (p, q, _) = not_beyond d i j e in ap (λ n. cond (eqb n 0) (Ok tt) (Err Twice)) (tables.names i j p q) ∙ marked (is_named i j ts)
 
   -- a term that is entered is one that they hold
   pub enter_kept : (t : Term) → t.i ≤ 8 → t.j ≤ 8 → Tables (t ∷ ts) (set values (place_of t.i t.j) t.coefficient) (set named (place_of t.i t.j) 1)

@@ -1,32 +1,44 @@
 // The first four lines of a text: `D` d; `B` X Y s; `K` k; `M` mode.
-ghost use Rattle.std.specs.Prelude.{◌≡◌, nat_abs, length};
-ghost use Rattle.reading.specs.Steps.{head_by, head_faulty, HeadRead};
+ghost use Rattle.std.specs.Prelude.{◌≡◌, ◌≤◌, nat_abs, length};
+ghost use Rattle.reading.specs.Steps.{head_by, refused_at, HeadLine, HeadRead};
 
-use crate::Head;
-use lines::{Taken, take_line};
+use crate::{Head, Refused};
+use lines::{Fault, Taken, take_line};
 
 // A number without its sign; none that comes here has one.
 pub fn size(z: i32) -> u32
     ensures { result ≡ nat_abs z }
 {
-    numbers::size(numbers::wide(z)) as u32
+    z.unsigned_abs()
 }
 
-// What is wrong with a line, by what was taken of it, and zeros.
-fn faulty_head(line: u32, taken: Taken) -> Head
-    ensures { result ≡ head_faulty line taken }
+// The refusal at a line, by the fault that it has.
+pub fn at_line(line: u32, fault: Fault) -> Refused
+    ensures { result ≡ refused_at line fault }
 {
-    Head {
-        number: taken.fault,
+    Refused {
+        refusal: fault.refusal,
         line,
-        field: taken.field,
-        next: 0,
-        d: 0,
-        x: 0,
-        y: 0,
-        s: 0,
-        k: 0,
-        mode: 0,
+        field: fault.field,
+    }
+}
+
+// A line of the text, from `at` on: taken, or what is wrong with it.
+fn head_line(
+    text: &[u8],
+    at: usize,
+    line: u32,
+    letter: u8,
+    count: usize,
+    signs: [bool; 3],
+) -> Result<Taken, Refused>
+    requires { (at ≤ length text.now) × (count ≤ 3) × (length signs ≡ 3) }
+    ensures { HeadLine text.now at line letter count signs result }
+{
+    let taken = take_line(text, at, letter, count, signs);
+    match taken.fault {
+        Some(fault) => Err(at_line(line, fault)),
+        None => Ok(taken),
     }
 }
 
@@ -36,9 +48,6 @@ fn head_of(next: usize, degree: [i32; 3], square: [i32; 3], depth: [i32; 3], mod
     ensures { result ≡ head_by next degree square depth mode }
 {
     Head {
-        number: 0,
-        line: 0,
-        field: 0,
         next,
         d: size(degree[0]),
         x: square[0],
@@ -50,28 +59,16 @@ fn head_of(next: usize, degree: [i32; 3], square: [i32; 3], depth: [i32; 3], mod
 }
 
 // The first four lines, or what is wrong with the first of them that has a fault.
-pub fn read_head(text: &[u8]) -> Head
+pub fn read_head(text: &[u8]) -> Result<Head, Refused>
     ensures { HeadRead text.now result }
 {
-    let d = take_line(text, 0, b'D', 1, [false, false, false]);
-    if d.fault != 0 {
-        return faulty_head(1, d);
-    }
-    let b = take_line(text, d.next, b'B', 3, [true, true, false]);
-    if b.fault != 0 {
-        return faulty_head(2, b);
-    }
-    let k = take_line(text, b.next, b'K', 1, [false, false, false]);
-    if k.fault != 0 {
-        return faulty_head(3, k);
-    }
-    let m = take_line(text, k.next, b'M', 1, [false, false, false]);
-    if m.fault != 0 {
-        return faulty_head(4, m);
-    }
+    let d = head_line(text, 0, 1, b'D', 1, [false, false, false])?;
+    let b = head_line(text, d.next, 2, b'B', 3, [true, true, false])?;
+    let k = head_line(text, b.next, 3, b'K', 1, [false, false, false])?;
+    let m = head_line(text, k.next, 4, b'M', 1, [false, false, false])?;
     let degree = d.values;
     let square = b.values;
     let depth = k.values;
     let mode = m.values;
-    head_of(m.next, degree, square, depth, mode)
+    Ok(head_of(m.next, degree, square, depth, mode))
 }

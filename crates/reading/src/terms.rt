@@ -3,50 +3,45 @@ ghost use Rattle.std.specs.Prelude.{◌≡◌, [], ◌≤◌, ◌<◌, length, s
 ghost use Rattle.page.specs.SheetLine.{whole_at, number_at};
 ghost use Rattle.reading.specs.Steps.{place_of, term_fault_in, fault_by, Tables, TermTaken, TermsRead};
 
-use crate::opening::size;
-use crate::{Entered, Fault};
-use lines::{Taken, take_line};
+use crate::Refused;
+use crate::opening::{at_line, size};
+use lines::{Fault, Taken, take_line};
+use page::Refusal;
 
-// What is wrong with a term: 18 where it is beyond the degree, or an exponent above 8; 19 where it was named before; else 0.
-fn term_fault(d: u32, i: u32, j: u32, named: &[u8]) -> u32
+// What is wrong with a term: it is beyond the degree, or an exponent is above 8; or it was named before.
+fn term_fault(d: u32, i: u32, j: u32, named: &[u8]) -> Result<(), Refusal>
     requires { length named.now ≡ 81 }
     ensures { result ≡ term_fault_in d i j named.now }
 {
     if 8 < i {
-        return 18;
+        return Err(Refusal::Beyond);
     }
     if 8 < j {
-        return 18;
+        return Err(Refusal::Beyond);
     }
     if d < i + j {
-        return 18;
+        return Err(Refusal::Beyond);
     }
     if named[(9 * i + j) as usize] != 0 {
-        return 19;
+        return Err(Refusal::Twice);
     }
-    0
+    Ok(())
 }
 
 // What is wrong with a term's line, by what was taken of it: once both exponents are read the term is judged, before a fault of the coefficient.
-fn line_fault(taken: Taken, d: u32, named: &[u8]) -> Entered
+fn line_fault(taken: Taken, d: u32, named: &[u8]) -> Result<(), Fault>
     requires { (length taken.values ≡ 3) × (length named.now ≡ 81) }
     ensures { result ≡ fault_by taken d named.now }
 {
     let term = taken.values;
     if 2 <= taken.read {
-        let number = term_fault(d, size(term[0]), size(term[1]), named);
-        if number != 0 {
-            return Entered {
-                number,
-                field: 2,
-                next: 0,
-            };
+        if let Err(refusal) = term_fault(d, size(term[0]), size(term[1]), named) {
+            return Err(Fault { refusal, field: 2 });
         }
     }
-    Entered {
-        number: taken.fault,
-        field: taken.field,
-        next: taken.next,
+    match taken.fault {
+        Some(fault) => Err(fault),
+        None => Ok(()),
     }
 }
 
@@ -62,41 +57,43 @@ fn enter(term: [i32; 3], values: &mut [i32], named: &mut [u8])
 }
 
 // The line of a text from `at` on, as a term, which is entered: where the next line begins, or what is wrong.
-fn term_line(text: &[u8], at: usize, d: u32, values: &mut [i32], named: &mut [u8]) -> Entered
+fn term_line(
+    text: &[u8],
+    at: usize,
+    d: u32,
+    values: &mut [i32],
+    named: &mut [u8],
+) -> Result<usize, Fault>
     requires { (at < length text.now) × (length values.old ≡ 81) × (length named.old ≡ 81) }
     ensures { TermTaken text.now at d values.old values.new named.old named.new result }
 {
     let taken = take_line(text, at, b'T', 3, [false, false, true]);
-    let entered = line_fault(taken, d, named);
-    if entered.number == 0 {
-        let term = taken.values;
-        enter(term, values, named);
-    }
-    entered
+    line_fault(taken, d, named)?;
+    let term = taken.values;
+    enter(term, values, named);
+    Ok(taken.next)
 }
 
-// All lines from `from` on, the fifth and its followers: what is wrong with the first that has a fault, or zeros.
-pub fn read_terms(text: &[u8], from: usize, d: u32, values: &mut [i32], named: &mut [u8]) -> Fault
+// All lines from `from` on, the fifth and its followers: what is wrong with the first that has a fault.
+pub fn read_terms(
+    text: &[u8],
+    from: usize,
+    d: u32,
+    values: &mut [i32],
+    named: &mut [u8],
+) -> Result<(), Refused>
     requires { (from ≤ length text.now) × (length text.now ≤ 8_192) × Tables [] values.old named.old }
     ensures { TermsRead text.now from d values.new result }
 {
     let mut at = from;
     let mut line = 5;
+    // a while: it goes by where a line ends
     while at < text.len() {
-        let entered = term_line(text, at, d, values, named);
-        if entered.number != 0 {
-            return Fault {
-                number: entered.number,
-                line,
-                field: entered.field,
-            };
+        match term_line(text, at, d, values, named) {
+            Ok(next) => at = next,
+            Err(fault) => return Err(at_line(line, fault)),
         }
-        at = entered.next;
         line += 1;
     }
-    Fault {
-        number: 0,
-        line: 0,
-        field: 0,
-    }
+    Ok(())
 }

@@ -2,21 +2,18 @@
 ghost use Rattle.std.specs.Prelude.{◌≡◌, map, ◌+◌, ◌≤◌, ◌<◌, length};
 ghost use Rattle.std.proofs.lemmas.List.Edits.{sets};
 ghost use Rattle.algebra.specs.Sum.{◌⋯◌};
-ghost use Rattle.page.specs.SheetText.{refused as refused_by};
-ghost use Rattle.reading.specs.Answers.{reading_of};
-ghost use Rattle.reading.specs.Steps.{table_at, gathered_from, Judged};
+ghost use Rattle.reading.specs.Steps.{table_at, gathered_from, refused_text, Judged};
 
-use crate::{Head, Reading};
+use crate::{Head, Refused, Sheet};
+use page::Refusal;
 
 // The coefficients of a row, A(i,0) to A(i,n), from `at` on: those of the table's row i.
 fn put_row(coefficients: &mut [i32; 45], at: usize, values: &[i32], i: usize, n: usize)
     requires { (length coefficients.old ≡ 45) × (length values.now ≡ 81) × (i ≤ 8) × (n ≤ 8) × (at + n < 45) }
     ensures { coefficients.new ≡ sets coefficients.old at (map (table_at values.now i) (0 ⋯ n)) }
 {
-    let mut j = 0;
-    while j <= n {
+    for j in 0..n + 1 {
         coefficients[at + j] = values[9 * i + j];
-        j += 1;
     }
 }
 
@@ -27,61 +24,48 @@ fn gathered(d: usize, values: &[i32]) -> [i32; 45]
 {
     let mut coefficients = [0i32; 45];
     let mut at = 0;
-    let mut i = 0;
-    while i <= d {
+    for i in 0..d + 1 {
         put_row(&mut coefficients, at, values, i, d - i);
         at += d - i + 1;
-        i += 1;
     }
     coefficients
 }
 
-// A refusal: its number, the line and the field where they are meant, and zeros.
-pub fn refused(number: u32, line: u32, field: u32) -> Reading
-    ensures { result ≡ reading_of (refused_by number line field) }
+// A refusal of the text as a whole: no line and no field are meant.
+pub fn refused(refusal: Refusal) -> Refused
+    ensures { result ≡ refused_text refusal }
 {
-    Reading {
-        refusal: number,
-        line,
-        field,
-        d: 0,
-        x: 0,
-        y: 0,
-        s: 0,
-        k: 0,
-        mode: 0,
-        coefficients: [0; 45],
+    Refused {
+        refusal,
+        line: 0,
+        field: 0,
     }
 }
 
 // The sheet of a well-formed text, judged by 1, 3, 4, 5, 6.
-pub fn judged(head: Head, values: &[i32]) -> Reading
+pub fn judged(head: Head, values: &[i32]) -> Result<Sheet, Refused>
     requires { length values.now ≡ 81 }
     ensures { Judged head values.now result }
 {
     let d = head.d;
     if 8 < d {
-        return refused(1, 0, 0);
+        return Err(refused(Refusal::Degree));
     }
     let n = d as usize;
     let coefficients = gathered(n, values);
     let count = cells::count(d);
-    let number = cells::mode_refusal(
+    let sheet = cells::Sheet {
         d,
-        &coefficients[..count],
-        head.x,
-        head.y,
-        head.s,
-        head.k,
-        head.mode,
-    );
-    if number != 0 {
-        return refused(number, 0, 0);
+        coefficients: &coefficients[..count],
+        x: head.x,
+        y: head.y,
+        s: head.s,
+        k: head.k,
+    };
+    if let Err(refusal) = sheet.check_mode(head.mode) {
+        return Err(refused(refusal));
     }
-    Reading {
-        refusal: 0,
-        line: 0,
-        field: 0,
+    Ok(Sheet {
         d,
         x: head.x,
         y: head.y,
@@ -89,5 +73,5 @@ pub fn judged(head: Head, values: &[i32]) -> Reading
         k: head.k,
         mode: head.mode,
         coefficients,
-    }
+    })
 }
