@@ -24,9 +24,9 @@ column old start d b i = held_from old start d i b
 abbrev pub come : List ℤ → ℕ → ℕ → ℤ → ℕ → ℕ → ℕ → ℤ
 come old start d s b j a = shifted (column old start d b) s (pos 1) (d - b) j a
 
--- where the row before the last n + 1 rows starts
+-- where the row before the last n rows starts
 abbrev pub lower : ℕ → ℕ → ℕ
-lower first n = first - (n + 1 + 1)
+lower first n = first - (n + 1)
 
 -- the last n + 1 rows are a table of degree n from `first` on
 pub record Shifting (start d : ℕ) (s : ℤ) (old places : List ℤ) (first n : ℕ) : Type 0 where
@@ -65,52 +65,52 @@ module _ {start d : ℕ} {s : ℤ} {old : List ℤ} where
     after = λ k i. refl;
   }
 
-  -- one row up, before its step, with j for its number
-  module _ {places : List ℤ} {first n : ℕ} (p : Shifting start d s old places first n) (j : ℕ) (e : j + suc n ≡ d) where
+  -- one row up, before its step: n rows come after it, and j is its number
+  module _ {places : List ℤ} {first m n : ℕ} (p : Shifting start d s old places first m) (k : n ≡ suc m) (j : ℕ) (e : j + n ≡ d) where
     -- where it starts, and that the table from there on ends where the whole one does
-    lower_start : first ≡ start + row_start d j + (n + 1 + 1)
-    lower_start = let h = p.here in let g : row_start d (d - n) ≡ row_start d (suc j) = ap (row_start d) (omega arith) in let q = row_start_suc d j in omega arith
+    lower_start : first ≡ start + row_start d j + (n + 1)
+    lower_start = let h = p.here in let g : row_start d (d - m) ≡ row_start d (suc j) = ap (row_start d) (omega arith) in let q = row_start_suc d j in omega arith
 
-    lower_end : lower first n + row_start (n + 1) (suc (n + 1)) ≡ start + row_start d (suc d)
+    lower_end : lower first n + row_start n (suc n) ≡ start + row_start d (suc d)
     lower_end =
-        let h = lower_start in let q = row_start_under d j (suc (n + 1)) in let f : row_start d (j + suc (n + 1)) ≡ row_start d (suc d) = ap (row_start d) (omega arith) in
-        let g : row_start (d - j) (suc (n + 1)) ≡ row_start (n + 1) (suc (n + 1)) = ap (λ m. row_start m (suc (n + 1))) (omega arith) in omega arith
+        let h = lower_start in let q = row_start_under d j (suc n) in let f : row_start d (j + suc n) ≡ row_start d (suc d) = ap (row_start d) (omega arith) in
+        let g : row_start (d - j) (suc n) ≡ row_start n (suc n) = ap (λ m. row_start m (suc n)) (omega arith) in omega arith
 
-    -- what it holds is old, and the rows after it are the table of degree n
-    first_row : (b : ℕ) → b ≤ n + 1 → held_from places (lower first n) (n + 1) 0 b ≡ held_from old start d j b
-    first_row b i = let h = lower_start in let z = row_start_zero (n + 1) in p.before (lower first n + place (n + 1) 0 b) (omega arith) ∙ ap (at old) (omega arith)
+    -- what it holds is old, and the rows after it are the table of degree m
+    first_row : (b : ℕ) → b ≤ n → held_from places (lower first n) n 0 b ≡ held_from old start d j b
+    first_row b i = let h = lower_start in let z = row_start_zero n in p.before (lower first n + place n 0 b) (omega arith) ∙ ap (at old) (omega arith)
 
-    other_rows : (a b : ℕ) → a + b ≤ n → held_from places (lower first n) (n + 1) (suc a) b ≡ come old start d s b (suc j) a
+    other_rows : (a b : ℕ) → a + b < n → held_from places (lower first n) n (suc a) b ≡ come old start d s b (suc j) a
     other_rows a b i =
-        let h = lower_start in let z = row_start_zero (n + 1) in let u = row_start_suc (n + 1) 0 in let q = row_start_under (n + 1) 1 a in
-        let f : row_start (n + 1) (suc a) ≡ row_start (n + 1) (1 + a) = ap (row_start (n + 1)) (omega arith) in
-        let g : row_start (n + 1 - 1) a ≡ row_start n a = ap (λ m. row_start m a) (omega arith) in
-        ap (at places) (omega arith) ∙ p.each a b i ∙ ap (λ i. come old start d s b i a) (omega arith)
+        let h = lower_start in let z = row_start_zero n in let u = row_start_suc n 0 in let q = row_start_under n 1 a in
+        let f : row_start n (suc a) ≡ row_start n (1 + a) = ap (row_start n) (omega arith) in
+        let g : row_start (n - 1) a ≡ row_start m a = ap (λ m. row_start m a) (omega arith) in
+        ap (at places) (omega arith) ∙ p.each a b (omega arith) ∙ ap (λ i. come old start d s b i a) (omega arith)
 
     -- the sizes
     come_size : (a b : ℕ) → nat_abs (come old start d s b (suc j) a) ≤ load (column old start d b) (nat_abs s + 1) (d - b) (suc j)
     come_size a b = shifted_size (column old start d b) s (pos 1) (d - b) (suc j) a
 
-    size : (a b : ℕ) → a + b ≤ n → nat_abs (held_from places (lower first n) (n + 1) a b) ≤ load (column old start d b) (nat_abs s + 1) (d - b) (suc j) + nat_abs (held_from old start d j b)
+    size : (a b : ℕ) → a + b < n → nat_abs (held_from places (lower first n) n a b) ≤ load (column old start d b) (nat_abs s + 1) (d - b) (suc j) + nat_abs (held_from old start d j b)
     size zero b i = rw (first_row b (omega arith)) (omega arith)
     size (suc a) b i = rw (other_rows a b (omega arith)) (let m = come_size a b in omega arith)
 
-    roomy : ColumnsMovable start d s old → RowsAddable (lower first n) (n + 1) s places
+    roomy : ColumnsMovable start d s old → RowsAddable (lower first n) n s places
     roomy r = record {
       inside = let q = lower_end in let l = r.inside in let m = p.long in omega arith;
       light = λ a b i.
           let c = column old start d b in let m = nat_abs s + 1 in
           let w = load_whole c m (d - b) j (Nat.le_refl m) (omega arith) in let l = r.light b (omega arith) in let q = load_next c m (d - b) j (omega arith) in
-          room (nat_abs (held_from places (lower first n) (n + 1) a b)) (nat_abs (held_from places (lower first n) (n + 1) (suc a) b)) (nat_abs s) (load c m (d - b) (suc j)) (nat_abs (c j)) (2 ^ 63)
+          room (nat_abs (held_from places (lower first n) n a b)) (nat_abs (held_from places (lower first n) n (suc a) b)) (nat_abs s) (load c m (d - b) (suc j)) (nat_abs (c j)) (2 ^ 63)
           (size a b (omega arith)) (rw (other_rows a b (omega arith)) (come_size a b)) (omega arith);
     }
 
     -- the step: what is added is zero at the last place of each row
-    gained : {new : List ℤ} → RowsAdded (lower first n) (n + 1) s places new → (a b : ℕ) → a + b ≤ n + 1
-        → held_from new (lower first n) (n + 1) a b ≡ held_from places (lower first n) (n + 1) a b +ℤ s *ℤ come old start d s b (suc j) a
+    gained : {new : List ℤ} → RowsAdded (lower first n) n s places new → (a b : ℕ) → a + b ≤ n
+        → held_from new (lower first n) n a b ≡ held_from places (lower first n) n a b +ℤ s *ℤ come old start d s b (suc j) a
     gained r a b i =
-        let x = held_from places (lower first n) (n + 1) a b in
-        elim (dec_le (n + 1) (a + b)) [
+        let x = held_from places (lower first n) n a b in
+        elim (dec_le n (a + b)) [
           | yes k ↦ r.last a b (omega arith) ∙ ring (x ∷ s ∷ []) (λ x s. x ≐ x ⊕ s ⊗ # 0) tt
               ∙ sym (ap (λ y. x +ℤ s *ℤ y) (shifted_over (column old start d b) s (pos 1) (d - b) (suc j) a (omega arith)))
           | no k ↦ r.added a b (omega arith) ∙ ap (λ y. x +ℤ s *ℤ y) (other_rows a b (omega arith))
@@ -119,7 +119,7 @@ module _ {start d : ℕ} {s : ℤ} {old : List ℤ} where
     exchanged : (x y : ℤ) → x +ℤ s *ℤ y ≡ y *ℤ s +ℤ x *ℤ pos 1
     exchanged x y = ring (x ∷ s ∷ y ∷ []) (λ x s y. x ⊕ s ⊗ y ≐ y ⊗ s ⊕ x ⊗ # 1) tt
 
-    step : {new : List ℤ} → RowsAdded (lower first n) (n + 1) s places new → (a b : ℕ) → a + b ≤ n + 1 → held_from new (lower first n) (n + 1) a b ≡ come old start d s b j a
+    step : {new : List ℤ} → RowsAdded (lower first n) n s places new → (a b : ℕ) → a + b ≤ n → held_from new (lower first n) n a b ≡ come old start d s b j a
     step r zero b i =
         gained r 0 b i ∙ ap (λ x. x +ℤ s *ℤ come old start d s b (suc j) 0) (first_row b (omega arith)) ∙ exchanged (held_from old start d j b) (come old start d s b (suc j) 0)
         ∙ sym (shifted_zero (column old start d b) s (pos 1) (d - b) j (omega arith))
@@ -127,21 +127,22 @@ module _ {start d : ℕ} {s : ℤ} {old : List ℤ} where
         gained r (suc a) b i ∙ ap (λ x. x +ℤ s *ℤ come old start d s b (suc j) (suc a)) (other_rows a b (omega arith)) ∙ exchanged (come old start d s b (suc j) a) (come old start d s b (suc j) (suc a))
         ∙ sym (shifted_suc (column old start d b) s (pos 1) (d - b) j a (omega arith))
 
-  module _ {places : List ℤ} {first n : ℕ} (o : n < d) (p : Shifting start d s old places first n) where
-    pub shifting_lower : n + 1 + 1 ≤ first
-    shifting_lower = let h = lower_start p (d - (n + 1)) (omega arith) in omega arith
+  -- the step to the last n + 1 rows
+  module _ {places : List ℤ} {first n : ℕ} (o : 1 ≤ n) (l : n ≤ d) (p : Shifting start d s old places first (n - 1)) where
+    pub shifting_lower : n + 1 ≤ first
+    shifting_lower = let k : n ≡ suc (n - 1) = omega arith in let e : d - n + n ≡ d = omega arith in let h = lower_start p k (d - n) e in omega arith
 
-    pub shifting_room : ColumnsMovable start d s old → RowsAddable (lower first n) (n + 1) s places
-    shifting_room r = roomy p (d - (n + 1)) (omega arith) r
+    pub shifting_room : ColumnsMovable start d s old → RowsAddable (lower first n) n s places
+    shifting_room r = roomy p (omega arith) (d - n) (omega arith) r
 
-    pub shifting_next : {new : List ℤ} → RowsAdded (lower first n) (n + 1) s places new → Shifting start d s old new (lower first n) (n + 1)
+    pub shifting_next : {new : List ℤ} → RowsAdded (lower first n) n s places new → Shifting start d s old new (lower first n) n
     shifting_next {new} r =
-        let j = d - (n + 1) in let e : j + suc n ≡ d = omega arith in let h = lower_start p j e in let q = lower_end p j e in
+        let k : n ≡ suc (n - 1) = omega arith in let e : d - n + n ≡ d = omega arith in let h = lower_start p k (d - n) e in let q = lower_end p k (d - n) e in
         record {
-          within = omega arith;
+          within = l;
           here = omega arith;
           long = r.long ∙ p.long;
-          each = step p j e r;
+          each = step p k (d - n) e r;
           before = λ k i. r.before k i ∙ p.before k (omega arith);
           after = λ k i. r.after k (omega arith) ∙ p.after k i;
         }

@@ -9,11 +9,9 @@ fn add_rows(places: &mut [i64], first: usize, n: usize, s: i64)
     ensures { RowsAdded first n s places.old places.new }
 {
     let mut at = first;
-    let mut m = n;
-    while 0 < m {
+    for m in (1..=n).rev() {
         add_run(places, at, at + m + 1, m, s);
         at += m + 1;
-        m -= 1;
     }
 }
 
@@ -23,9 +21,7 @@ pub fn move_columns(places: &mut [i64], start: usize, d: usize, s: i64)
     ensures { ColumnsMoved start d s places.old places.new }
 {
     let mut first = start + (d + 1) * (d + 2) / 2 - 1;
-    let mut n = 0;
-    while n < d {
-        n += 1;
+    for n in 1..=d {
         first -= n + 1;
         add_rows(places, first, n, s);
     }

@@ -8,9 +8,7 @@ fn move_row(places: &mut [i64], first: usize, n: usize, s: i64)
     requires { RowMovable first n s places.old }
     ensures { RowMoved first n s places.old places.new }
 {
-    let mut i = n;
-    while 0 < i {
-        i -= 1;
+    for i in (0..n).rev() {
         add_run(places, first + i, first + i + 1, n - i, s);
     }
 }
@@ -21,10 +19,8 @@ pub fn move_rows(places: &mut [i64], start: usize, d: usize, s: i64)
     ensures { RowsMoved start d s places.old places.new }
 {
     let mut first = start;
-    let mut i = 0;
-    while i <= d {
+    for i in 0..=d {
         move_row(places, first, d - i, s);
         first += d + 1 - i;
-        i += 1;
     }
 }

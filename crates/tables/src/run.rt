@@ -15,11 +15,9 @@ pub fn add_run(places: &mut [i64], to: usize, from: usize, count: usize, s: i64)
     requires { Addable to from count s places.old }
     ensures { Added to from count s places.old places.new }
 {
-    let mut c = 0;
-    while c < count {
+    for c in 0..count {
         let x = places[to + c];
         let y = places[from + c];
         places[to + c] = plus(x, s, y);
-        c += 1;
     }
 }

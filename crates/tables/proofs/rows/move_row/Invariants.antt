@@ -3,6 +3,3 @@ use Rattle.tables.proofs.rows.move_row.Given as goal
 
 abbrev pub invariant-loop-i : goal.invariant-loop-i
 invariant-loop-i l = Moving l.first l.n l.s l.initial.places l.places l.i
-
-abbrev pub decreases-loop-i : goal.decreases-loop-i
-decreases-loop-i l = l.i

@@ -1,4 +1,3 @@
-use Prim.Native.Nat.{◌+◌, ◌-◌}
 use Rattle.forms.specs.Plane.{along}
 use Rattle.tables.specs.Table.{held_from}
 use Rattle.tables.proofs.Setting.{Setting}
@@ -6,6 +5,3 @@ use Rattle.tables.proofs.rows.move_rows.Given as goal
 
 abbrev pub invariant-loop-i : goal.invariant-loop-i
 invariant-loop-i l = Setting l.start l.d (along l.d (held_from l.initial.places l.start l.d) l.s) l.initial.places l.places l.first l.i
-
-abbrev pub decreases-loop-i : goal.decreases-loop-i
-decreases-loop-i l = l.d + 1 - l.i
