@@ -1,22 +1,16 @@
 -- Both variables moved: the second, row by row, and then the first. The sizes leave room for each, and the table is then the one that is moved by both.
-use mathlib.Core.Path.{◌≡◌, refl, sym, ◌∙◌, ap}
-use mathlib.Core.Bool.{true, false, true≢false}
-use mathlib.Core.List.{List, [], ◌∷◌}
+use mathlib.Core.Path.{◌≡◌, sym, ◌∙◌, ap}
+use mathlib.Core.List.{List}
 use Prim.Native.Nat.{ℕ, suc, ◌+◌, ◌*◌, ◌-◌, ◌^◌, ◌≤◌}
 use native.Mathlib.Nat as Nat
 use native.Mathlib.Omega.{arith}
-use borrow.Author.Tests.{ltb-true, ltb-false}
-use lib.Signed.{lt_z}
-use lib.IntN.{ℤ, pos, negsuc, ◌+ℤ◌, ◌*ℤ◌, nat_abs}
-use Rattle.algebra.specs.Sum.{sum, sumℕ, ◌⋯◌}
-use Rattle.algebra.specs.Binomial.{entry}
+use lib.IntN.{ℤ, nat_abs}
+use Rattle.algebra.specs.Sum.{sumℕ, ◌⋯◌}
 use Rattle.algebra.specs.Triangle.{row_start, place}
 use Rattle.algebra.proofs.Sum.{sumℕ_cong, sumℕ_mono}
 use Rattle.algebra.proofs.Run.{⋯_member}
-use Rattle.algebra.proofs.Ring.{ring, ◌⊕◌, ◌⊗◌, #◌, ◌≐◌}
-use Rattle.algebra.proofs.Horner.{shifted_all, shifted_zero, shifted_none}
-use Rattle.forms.specs.Plane.{along, across}
-use Rattle.forms.proofs.Moves.{moved_both, along_load, across_load, along_agree, across_agree, along_still, across_still}
+use Rattle.forms.specs.Plane.{along}
+use Rattle.forms.proofs.Moves.{moved_both, along_load, across_load, along_agree, across_agree}
 use Rattle.tables.specs.Table.{at, held_from, held}
 use Rattle.tables.specs.Moves.{RowsMovable, RowsMoved, ColumnsMovable, ColumnsMoved, Movable, Moved}
 

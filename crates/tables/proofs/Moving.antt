@@ -102,7 +102,7 @@ module _ {first n : ℕ} {s : ℤ} {old : List ℤ} where
       record { long = q.long; row = λ a l. ap (at places) (omega arith) ∙ q.row a (omega arith); before = λ m l. q.before m (omega arith); after = q.after }
 
 -- ---- the rows of a table: the next one is still the old one, and may be moved
-module _ {start d : ℕ} {R : ℕ → ℕ → ℤ} {old places : List ℤ} {first i : ℕ} (h : i ≤ d) (p : Setting start d R old places first i) where
+module _ {start d : ℕ} {R : ℕ → ℕ → ℤ → Type 0} {old places : List ℤ} {first i : ℕ} (h : i ≤ d) (p : Setting start d R old places first i) where
   next_row : row_of places first ≡ held_from old start d i
   next_row = fun_ext (λ j. let e : first + j ≡ start + place d i j = (let q = p.here in omega arith) in p.after (first + j) (omega arith) ∙ ap (at old) e)
 
@@ -117,7 +117,7 @@ module _ {start d : ℕ} {R : ℕ → ℕ → ℤ} {old places : List ℤ} {firs
   }
 
   -- moved, it holds the numbers of the table moved along
-  pub rows_next : {new : List ℤ} {s : ℤ} → RowMoved first (d - i) s places new → RowSet first (d - i) (along d (held_from old start d) s i) places new
+  pub rows_next : {new : List ℤ} {s : ℤ} → RowMoved first (d - i) s places new → RowSet first (d - i) (λ b z. z ≡ along d (held_from old start d) s i b) places new
   unfolding along
   rows_next {new} {s} q = record {
     long = q.long;

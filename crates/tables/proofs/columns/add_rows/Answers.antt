@@ -1,8 +1,6 @@
 -- `columns::add_rows` meets its contract: row by row from the first, each from the next row, which is still the old one.
-use Prim.Native.Nat.{◌+◌}
 use native.Mathlib.Omega.{arith}
 use mir.Facts.{to_z-of_z}
-use Rattle.tables.specs.Moves.{Addable}
 use Rattle.tables.proofs.Rowwise.{rowwise_start, rowwise_room, rowwise_next, rowwise_end}
 use Rattle.tables.proofs.columns.add_rows.Goals as goal
 

@@ -1,8 +1,6 @@
 -- `columns::move_columns` meets its contract: the rows from the last up, each step one of Horner's rule in every column.
-use Prim.Native.Nat.{◌+◌, ◌*◌, ◌/◌, ◌≤◌}
 use native.Mathlib.Nat as Nat
 use native.Mathlib.Omega.{arith}
-use lib.ListN.{length}
 use mir.Facts.{to_z-of_z}
 use Rattle.algebra.proofs.Places.{row_start_all}
 use Rattle.tables.proofs.Subtables.{first_row_inside}

@@ -1,4 +1,3 @@
-use Prim.Native.Nat.{◌+◌, ◌-◌}
 use Rattle.tables.proofs.Values.{Rising}
 use Rattle.tables.proofs.value.value_at.Given as goal
 
