@@ -24,8 +24,7 @@ pub fn within(head: &[u8; 28], i: usize, most: usize) -> usize
     requires { i < 7 }
     ensures { result ≤ most }
 {
-    let n = at(head, i);
-    if n < most { n } else { most }
+    at(head, i).min(most)
 }
 
 // Reads as many bytes as there are places for them, the next ones; false where fewer are left.
@@ -35,19 +34,11 @@ pub fn read<R: Read>(from: &mut R, given: &mut [u8]) -> bool
     from.read_exact(given).is_ok()
 }
 
-fn fill(place: &mut [u8], byte: u8) {
-    let mut i = 0;
-    while i < place.len() {
-        place[i] = byte;
-        i += 1;
-    }
-}
-
 // Makes the place hold what the three numbers from the first on say; false where the input ends within that.
 pub fn hold<R: Read>(from: &mut R, head: &[u8; 28], first: usize, place: &mut [u8]) -> bool
     requires { first < 5 }
 {
-    fill(place, (at(head, first) % 256) as u8);
+    place.fill((at(head, first) % 256) as u8);
     let end = within(head, first + 2, place.len());
     let start = within(head, first + 1, end);
     read(from, &mut place[start..end])

@@ -3,17 +3,11 @@
 // An inner crate: what its functions require, every caller proves.
 #![tactic(auto)]
 
-ghost use Rattle.std.specs.Prelude.{◌+◌, ◌<◌, ◌≤◌, length};
-
-fn wide(byte: u8) -> u32
-    ensures { result < 256 }
-{
-    byte as u32
-}
+ghost use Rattle.std.specs.Prelude.{◌+◌, ◌≤◌, length};
 
 // The number that four bytes hold, the lowest first.
 pub fn number(a: u8, b: u8, c: u8, d: u8) -> u32 {
-    wide(a) + 256 * wide(b) + 65536 * wide(c) + 16777216 * wide(d)
+    u32::from_le_bytes([a, b, c, d])
 }
 
 pub fn code(number: i64) -> u64 {
@@ -28,11 +22,5 @@ pub fn code(number: i64) -> u64 {
 pub fn put(out: &mut [u8], at: usize, word: u64)
     requires { at + 8 ≤ length out.old }
 {
-    let mut rest = word;
-    let mut i = 0;
-    while i < 8 {
-        out[at + i] = (rest % 256) as u8;
-        rest /= 256;
-        i += 1;
-    }
+    out[at..at + 8].copy_from_slice(&word.to_le_bytes());
 }
