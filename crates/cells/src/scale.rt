@@ -12,11 +12,8 @@ fn wide_places(coefficients: &[i32]) -> [i64; 45]
     ensures { Widened coefficients.now result }
 {
     let mut places = [0i64; 45];
-    let mut at = 0;
-    while at < coefficients.len() {
-        let a = coefficients[at];
-        places[at] = numbers::wide(a);
-        at += 1;
+    for (at, &a) in coefficients.iter().enumerate() {
+        places[at] = i64::from(a);
     }
     places
 }
