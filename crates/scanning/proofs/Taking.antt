@@ -8,12 +8,12 @@ use native.Mathlib.Decide.{dec_le}
 use native.Mathlib.Omega.{arith}
 use lib.ListN.{length, get_or, take, drop, length-append}
 use lib.Seq.{take_at, drop-length}
+use Rattle.std.proofs.Common.{None}
 use Rattle.page.proofs.Amounts.{rest_is}
 use Rattle.pbm.specs.Reading.{is_bit, is_white}
 use Rattle.pbm.specs.Steps.{Bits, cut_short, complete, with_bit, take_bits}
 use Rattle.pbm.proofs.Bits.{taken}
-use Rattle.scanning.specs.declared.Data.{Data}
-use Rattle.scanning.specs.Steps.{bits_ahead, DataTaken}
+use Rattle.scanning.specs.Steps.{bits_ahead, DataEnds, DataTaken}
 use Rattle.scanning.proofs.Ahead.{ahead_++, ahead_few}
 
 -- ---- bits put before those that a scan takes
@@ -75,19 +75,14 @@ module _ {text : List ℕ} {at count : ℕ} where
   taking_start h = record { within = h; passed = []; step = refl }
 
   -- too few: the text ends, or a byte stands there that may not
-  taking_short : {left i : ℕ} → Taking text at count left i → take_bits left (drop i text) ≡ cut_short → {r : Data} → r.good ≡ false → r.next ≡ i → DataTaken text at count r
-  taking_short {i = i} t e {r} g n = record {
-    bits = [];
-    step = t.step ∙ ap (with_bits t.passed) e ∙ bits_short t.passed ∙ sym (rw g);
-    within = rw n t.within;
-  }
+  taking_short : {left i : ℕ} → Taking text at count left i → take_bits left (drop i text) ≡ cut_short → DataTaken text at count None
+  taking_short t e = t.step ∙ ap (with_bits t.passed) e ∙ bits_short t.passed
 
-  pub taking_none : {left i : ℕ} → Taking text at count left i → 0 < left → i ≡ length text → {r : Data} → r.good ≡ false → r.next ≡ i → DataTaken text at count r
-  taking_none {left} {i} t h e {r} g n = taking_short t (ap (take_bits left) (ap (λ m. drop m text) e ∙ drop-length text) ∙ take_none left h) g n
+  pub taking_none : {left i : ℕ} → Taking text at count left i → 0 < left → i ≡ length text → DataTaken text at count None
+  taking_none {left} {i} t h e = taking_short t (ap (take_bits left) (ap (λ m. drop m text) e ∙ drop-length text) ∙ take_none left h)
 
-  pub taking_other : {left i : ℕ} → Taking text at count left i → 0 < left → i < length text → {b : Bool} → b ≡ (is_bit (get_or text i 0) || is_white (get_or text i 0)) → b ≡ false
-      → {r : Data} → r.good ≡ false → r.next ≡ i → DataTaken text at count r
-  taking_other {left} {i} t h l e f {r} g n = taking_short t (ap (take_bits left) (rest_is text i l) ∙ take_other left (get_or text i 0) (drop (i + 1) text) h (sym e ∙ f)) g n
+  pub taking_other : {left i : ℕ} → Taking text at count left i → 0 < left → i < length text → {b : Bool} → b ≡ (is_bit (get_or text i 0) || is_white (get_or text i 0)) → b ≡ false → DataTaken text at count None
+  taking_other {left} {i} t h l e f = taking_short t (ap (take_bits left) (rest_is text i l) ∙ take_other left (get_or text i 0) (drop (i + 1) text) h (sym e ∙ f))
 
   -- one byte more, a digit or white space
   pub taking_next : {left i m : ℕ} → Taking text at count left i → 0 < left → i < length text → {b : Bool} → b ≡ (is_bit (get_or text i 0) || is_white (get_or text i 0)) → b ≡ true
@@ -118,11 +113,11 @@ module _ {text : List ℕ} {at count : ℕ} where
           }
 
   -- none to come: all are taken
-  pub taking_end : {left i : ℕ} → Taking text at count left i → left ≡ 0 → {r : Data} → r.good ≡ true → r.next ≡ i → DataTaken text at count r
+  pub taking_end : {left i : ℕ} → Taking text at count left i → left ≡ 0 → {r : ℕ} → r ≡ i → DataEnds text at count r
   unfolding take_bits
-  taking_end {left} {i} t z {r} g n = record {
+  taking_end {left} {i} t z n = record {
     bits = t.passed;
-    step = t.step ∙ ap (λ m. with_bits t.passed (take_bits m (drop i text))) z ∙ bits_whole t.passed (drop i text) ∙ ap (λ m. complete t.passed (drop m text)) (sym n) ∙ sym (rw g);
+    step = t.step ∙ ap (λ m. with_bits t.passed (take_bits m (drop i text))) z ∙ bits_whole t.passed (drop i text) ∙ ap (λ m. complete t.passed (drop m text)) (sym n);
     within = rw n t.within;
   }
 

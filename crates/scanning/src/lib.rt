@@ -6,69 +6,45 @@ mod rows;
 
 ghost use Rattle.std.specs.Prelude.{◌≡◌};
 ghost use Rattle.scanning.specs.Promises.{ScanPromise};
-ghost use Rattle.scanning.specs.Steps.{depth_or, PictureFound};
+ghost use Rattle.scanning.specs.Steps.{depth_at, PictureFound};
 
 use header::Head;
+use page::Refusal;
 
-// The depth of the side, or a refusal.
-#[derive(Clone, Copy)]
-pub enum Scanned {
-    Depth(u32),
-    Refused(u32),
-}
-
-// Where the last digit ends, or that there are too few.
-#[derive(Clone, Copy)]
-struct Data {
-    pub good: bool,
-    pub next: usize,
-}
-
-// The sizes of a plain PBM, one above 2^63 told as 2^63, and where its digits begin; or that the text is none.
-fn picture_in(text: &[u8]) -> Head
+// The sizes of a plain PBM, one above 2^63 told as 2^63, and where its digits begin, if the text is one.
+fn picture_in(text: &[u8]) -> Option<Head>
     ensures { PictureFound text.now result }
 {
-    let head = header::read_head(text);
-    if !head.good {
-        return header::no_head();
-    }
+    let head = header::read_head(text)?;
     if !digits::complete(text, head.next, head.width, head.height) {
-        return header::no_head();
+        return None;
     }
-    head
+    Some(head)
 }
 
-// The depth of a picture of these sizes; 8 where it has none.
-fn depth_of(width: u64, height: u64) -> u32
-    ensures { result ≡ depth_or width height }
+// The depth of a picture of these sizes, if it has one.
+fn depth_of(width: u64, height: u64) -> Option<u32>
+    ensures { result ≡ depth_at width height }
 {
-    let mut k = 0;
-    while k < 8 {
+    for k in 0..8 {
         let side = 1u64 << k;
         if width == side && height == side {
-            return k;
+            return Some(k);
         }
-        k += 1;
     }
-    k
+    None
 }
 
-// Reads a picture: a byte 1 or 0 for each of its cells, in raster order, row 0 the bottom row.
-pub fn read_pbm(text: &[u8], place: &mut [u8]) -> Scanned
+// Reads a picture: a byte 1 or 0 for each of its cells, in raster order, row 0 the bottom row. The depth of its side, or a refusal.
+pub fn read_pbm(text: &[u8], place: &mut [u8]) -> Result<u32, Refusal>
     ensures { ScanPromise text.now place.old result place.new }
 {
-    let head = picture_in(text);
-    if !head.good {
-        return Scanned::Refused(12);
-    }
-    let depth = depth_of(head.width, head.height);
-    if depth == 8 {
-        return Scanned::Refused(13);
-    }
+    let head = picture_in(text).ok_or(Refusal::NotPlain)?;
+    let depth = depth_of(head.width, head.height).ok_or(Refusal::Sides)?;
     let side = 1usize << depth;
     if place.len() < side * side {
-        return Scanned::Refused(7);
+        return Err(Refusal::Place);
     }
     rows::put_rows(text, head.next, place, side);
-    Scanned::Depth(depth)
+    Ok(depth)
 }

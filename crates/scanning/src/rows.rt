@@ -9,11 +9,8 @@ fn next_bit(text: &[u8], at: usize) -> usize
     requires { 0 < length (bits_ahead (drop at text.now)) }
     ensures { BitFound text.now at result }
 {
-    let mut i = at;
-    while !is_bit(text[i]) {
-        i += 1;
-    }
-    i
+    let others = text[at..].iter().position(|&byte| is_bit(byte)).unwrap();
+    at + others
 }
 
 // Sets the bytes of a row from `from` on, from the digits from `at` on: where the last of them ends.
@@ -22,12 +19,10 @@ fn put_row(text: &[u8], at: usize, place: &mut [u8], from: usize, side: usize) -
     ensures { RowTaken text.now at from side place.old place.new result }
 {
     let mut next = at;
-    let mut p = 0;
-    while p < side {
+    for p in 0..side {
         let found = next_bit(text, next);
-        place[from + p] = text[found] - 48;
+        place[from + p] = text[found] - b'0';
         next = found + 1;
-        p += 1;
     }
     next
 }
@@ -38,9 +33,7 @@ pub fn put_rows(text: &[u8], at: usize, place: &mut [u8], side: usize)
     ensures { RowsTaken text.now at side place.old place.new }
 {
     let mut next = at;
-    let mut n = 0;
-    while n < side {
+    for n in 0..side {
         next = put_row(text, next, place, (side - 1 - n) * side, side);
-        n += 1;
     }
 }

@@ -12,22 +12,10 @@ use Rattle.scanning.proofs.depth_of.Goals.{else-width-side-via-then-width-side+e
 pub loop-k-init : goal.loop-k-init
 loop-k-init c = trying_start
 
-pub overflow_cast-side : goal.overflow_cast-side
-overflow_cast-side c = omega arith
-
-pub overflow_shl-side : goal.overflow_shl-side
-overflow_shl-side c = omega arith
-
 pub returns-then-height-side : goal.returns-then-height-side
 returns-then-height-side c =
     let side-is : 1 * 2 ^ c.loop-k.k % 2 ^ 64 ≡ 2 ^ c.loop-k.k = one_shifted c.loop-k.k (omega arith) in
     trying_found c.loop-k.invariant (omega arith) (c.if-width-side.true ∙ side-is) (c.if-height-side.true ∙ side-is)
-
-pub overflow_add-k : goal.overflow_add-k
-overflow_add-k c = omega arith
-
-pub loop-k-smaller : goal.loop-k-smaller
-loop-k-smaller c = omega arith
 
 pub loop-k-preserved : goal.loop-k-preserved
 loop-k-preserved c =

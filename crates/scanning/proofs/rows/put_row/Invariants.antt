@@ -1,9 +1,5 @@
-use Prim.Native.Nat.{◌-◌}
 use Rattle.scanning.proofs.Masking.{Rowing}
 use Rattle.scanning.proofs.rows.put_row.Given as goal
 
 abbrev pub invariant-loop-p : goal.invariant-loop-p
 invariant-loop-p l = Rowing l.text l.at l.from l.side l.initial.place l.place l.next l.p
-
-abbrev pub decreases-loop-p : goal.decreases-loop-p
-decreases-loop-p l = l.side - l.p
