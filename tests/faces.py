@@ -19,7 +19,7 @@ import rattle
 from rattle import Unread
 from sources import NAME, WORDS, at, blocks, brings, code_of, crates, named, names_in, signatures, specs_of, tables, text_of, uses
 
-INNER = ("algebra", "forms", "numbers", "weight", "verdicts", "tables", "local", "page", "pbm", "digits", "cells", "marks", "lines", "writing", "header", "words", "items", "intake", "starred",
+INNER = ("algebra", "forms", "numbers", "weight", "verdicts", "tables", "local", "page", "pbm", "decimals", "cells", "marks", "lines", "writing", "header", "words", "items", "intake", "starred",
          "earlier", "returning")
 # what the first comment of an inner crate says: where it has functions, types alone, or nothing
 FUNCTIONS = "An inner crate: what its functions require, every caller proves."

@@ -32,7 +32,7 @@ pub fn size_after(text: &[u8], at: usize) -> Option<Size>
     if end == from {
         return None;
     }
-    let value = digits::capped_amount::<MOST>(&text[from..end]);
+    let value = decimals::capped_amount::<MOST>(&text[from..end]);
     if value == 0 {
         return None;
     }

@@ -1,16 +1,9 @@
 // Numbers as they are written in a field: decimal, no plus, no leading zero, no `-0`, within signed 32 bits.
-ghost use Rattle.std.specs.Prelude.{◌≡◌, true, ◌^◌, min};
-ghost use Rattle.page.specs.SheetLine.{is_decimal, is_minus, all_digits, amount};
+ghost use Rattle.std.specs.Prelude.{◌≡◌};
+ghost use Rattle.page.specs.SheetLine.{is_decimal, is_minus};
 ghost use Rattle.lines.specs.Steps.{number_in, single_in, signless_in, minus_in, decimal_in};
 
 use page::Refusal;
-
-// Whether all bytes are digits.
-fn digits_only(digits: &[u8]) -> bool
-    ensures { result ≡ all_digits digits.now }
-{
-    digits.iter().all(|b| b.is_ascii_digit())
-}
 
 // Whether the bytes are `0`, or digits of which the first is not 0.
 fn decimal(digits: &[u8]) -> bool
@@ -23,29 +16,17 @@ fn decimal(digits: &[u8]) -> bool
     if 1 < count && digits[0] == b'0' {
         return false;
     }
-    digits_only(digits)
+    decimals::all_digits(digits)
 }
 
-// The number that the digits write, but not above 2^32: so digits of any count are read.
-fn capped_amount(digits: &[u8]) -> u64
-    requires { all_digits digits.now ≡ true }
-    ensures { result ≡ min (amount 0 digits.now) (2 ^ 32) }
-{
-    let mut n = 0u64;
-    for &byte in digits {
-        n = (10 * n + u64::from(byte - b'0')).min(4_294_967_296);
-    }
-    n
-}
-
-// The same, or that the digits are badly written.
+// The number that the digits write, but not above 2^32, so that digits of any count are read; or that they are badly written.
 fn written(digits: &[u8]) -> Result<u64, Refusal>
     ensures { result ≡ decimal_in digits.now }
 {
     if !decimal(digits) {
         return Err(Refusal::Written);
     }
-    Ok(capped_amount(digits))
+    Ok(decimals::capped_amount::<4_294_967_296>(digits))
 }
 
 // Whether the field begins with `-`.
@@ -85,7 +66,7 @@ fn below_zero(n: u64, negative: bool) -> Result<i32, Refusal>
 fn single(byte: u8) -> Result<i32, Refusal>
     ensures { result ≡ single_in byte }
 {
-    if !byte.is_ascii_digit() {
+    if !decimals::is_digit(byte) {
         return Err(Refusal::Written);
     }
     Ok(i32::from(byte - b'0'))

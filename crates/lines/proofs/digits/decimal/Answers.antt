@@ -6,6 +6,6 @@ use Rattle.lines.proofs.digits.decimal.Goals.{else-count-gt1-via-then-count-gt1+
 
 pub returns : goal.returns
 returns c =
-    c.digits_only.ensures
+    c.all_digits.ensures
     ∙ no_leading_zero c.args.digits.now c.if-count-eq0.false
     (λ g z. elim c.else-count-gt1.branch [ else-count-gt1-via-then-count-gt1+else-digits-eq48 w ↦ w.if-digits-eq48.false z | else-count-gt1-via-else-count-gt1 w ↦ absurd (omega (arith, w.if-count-gt1.false)) ])

@@ -1,7 +1,7 @@
--- `digits::capped_amount` meets its contract: the ceiling is put in at each digit.
+-- `decimals::capped_amount` meets its contract: the ceiling is put in at each digit.
 use Rattle.std.proofs.Common.{arith}
 use Rattle.page.proofs.Amounts.{adding_start, adding_digit, adding_next, adding_end}
-use Rattle.digits.proofs.capped_amount.Goals as goal
+use Rattle.decimals.proofs.capped_amount.Goals as goal
 
 pub loop-byte-init : goal.loop-byte-init
 loop-byte-init g c = adding_start g.row.CEILING _ c.requires

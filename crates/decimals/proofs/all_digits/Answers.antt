@@ -1,11 +1,11 @@
--- `digits::all_digits` meets its contract: `all` goes over the bytes as the definition does.
+-- `decimals::all_digits` meets its contract: `all` goes over the bytes as the definition does.
 use Rattle.std.proofs.Common.{◌∙◌, ◌&&◌, refl, rules, tests}
 use Rattle.std.specs.List.{list_all}
 use Rattle.std.proofs.lemmas.Iterator.{YieldsList-from_slice}
 use Rattle.std.proofs.lemmas.Iterator.Search.{all_from_yields_List}
 use Rattle.std.proofs.lemmas.List.Recursion.{same_from_clauses}
 use Rattle.page.specs.SheetLine.{is_digit, all_digits}
-use Rattle.digits.proofs.all_digits.Goals as goal
+use Rattle.decimals.proofs.all_digits.Goals as goal
 
 pub returns : goal.returns
 unfolding all_digits
