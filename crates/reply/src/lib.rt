@@ -7,11 +7,11 @@ ghost use Rattle.std.specs.Prelude.{◌≡◌, ◌≤◌, length};
 ghost use Rattle.page.specs.ListingText.{text_after};
 ghost use Rattle.reply.specs.Answers.{room};
 ghost use Rattle.reply.specs.Promises.{PlacePromise, AnswerPromise};
-ghost use Rattle.reply.specs.Steps.{FromText, ListsRecords, Tells};
+ghost use Rattle.reply.specs.Steps.{FromText, ListsRecords, Tells, TellsRefused};
 
 pub use picture::{PICTURE_ROOM, depict, picture_place};
-use reading::Reading;
-use walk::Listed;
+use reading::{Refused, Sheet};
+use walk::{Records, Refusal};
 
 // Room enough for the listing of any sheet: 16 bytes for each of 16,384 records, and 28 for the total.
 pub const ROOM: usize = 262_172;
@@ -31,7 +31,7 @@ fn record_space() -> [u32; 16384]
 }
 
 // The records of an accepted sheet.
-fn list_records(sheet: Reading, records: &mut [u32]) -> Listed
+fn list_records(sheet: Sheet, records: &mut [u32]) -> Result<Records, Refusal>
     requires { FromText sheet }
     ensures { ListsRecords sheet records.old result records.new }
 {
@@ -51,21 +51,26 @@ fn list_records(sheet: Reading, records: &mut [u32]) -> Listed
 }
 
 // Writes the listing of an accepted sheet: where its text ends. A sheet that is accepted is refused by no number.
-fn list(sheet: Reading, place: &mut [u8]) -> usize
+fn list(sheet: Sheet, place: &mut [u8]) -> usize
     requires { FromText sheet × (room ≤ length place.old) }
     ensures { Tells text_after sheet place.old place.new result }
 {
     let mut records = record_space();
-    let listed = list_records(sheet, &mut records);
-    match listed {
-        Listed::Records {
-            length,
-            visited,
-            coloured,
-            ..
-        } => writing::write_listing(place, &records[..length], visited, coloured),
-        Listed::Refused(number) => writing::write_refusal(place, number, 0, 0),
+    match list_records(sheet, &mut records) {
+        Ok(Records { length, seen }) => {
+            writing::write_listing(place, &records[..length], seen.visited, seen.coloured)
+        }
+        Err(refusal) => writing::write_refusal(place, refusal as u32, 0, 0),
     }
+}
+
+// Writes the line of a text's refusal: where it ends.
+fn refuse(refused: Refused, place: &mut [u8]) -> usize
+    requires { 41 ≤ length place.old }
+    ensures { TellsRefused refused place.old place.new result }
+{
+    let number = refused.refusal as u32;
+    writing::write_refusal(place, number, refused.line, refused.field)
 }
 
 // Reads a sheet text, lists its sheet, and writes the listing's text or the line of a refusal at the start of the place: how long it is. A
@@ -76,9 +81,8 @@ pub fn answer(text: &[u8], place: &mut [u8]) -> usize
     if place.len() < ROOM {
         return 0;
     }
-    let sheet = reading::read(text);
-    if sheet.refusal != 0 {
-        return writing::write_refusal(place, sheet.refusal, sheet.line, sheet.field);
+    match reading::read(text) {
+        Ok(sheet) => list(sheet, place),
+        Err(refused) => refuse(refused, place),
     }
-    list(sheet, place)
 }

@@ -5,9 +5,9 @@ ghost use Rattle.reply.specs.Answers.{picture_room};
 ghost use Rattle.reply.specs.Promises.{PicturePlacePromise, DepictPromise};
 ghost use Rattle.reply.specs.Steps.{FromText, PaintsRaster, Tells};
 
-use printing::Printed;
-use reading::Reading;
-use walk::Tallied;
+use crate::refuse;
+use reading::Sheet;
+use walk::{Refusal, Seen};
 
 // Room enough for the picture of any sheet: the longest is one of depth 7.
 pub const PICTURE_ROOM: usize = 16_651;
@@ -35,7 +35,7 @@ fn finest(k: u32) -> usize
 }
 
 // The raster of an accepted sheet.
-fn paint(sheet: Reading, raster: &mut [u8]) -> Tallied
+fn paint(sheet: Sheet, raster: &mut [u8]) -> Result<Seen, Refusal>
     requires { FromText sheet }
     ensures { PaintsRaster sheet raster.old result raster.new }
 {
@@ -55,16 +55,16 @@ fn paint(sheet: Reading, raster: &mut [u8]) -> Tallied
 }
 
 // Writes the picture of an accepted sheet: where its text ends. A sheet that is accepted is refused by no number.
-fn draw(sheet: Reading, place: &mut [u8]) -> usize
+fn draw(sheet: Sheet, place: &mut [u8]) -> usize
     requires { FromText sheet × (picture_room ≤ length place.old) }
     ensures { Tells picture_after sheet place.old place.new result }
 {
     let mut raster = raster_space();
-    paint(sheet, &mut raster);
+    let _ = paint(sheet, &mut raster);
     let count = finest(sheet.k);
     match printing::write_pbm(sheet.k, &raster[..count], place) {
-        Printed::Bytes(n) => n,
-        Printed::Refused(number) => writing::write_refusal(place, number, 0, 0),
+        Ok(n) => n,
+        Err(refusal) => writing::write_refusal(place, refusal as u32, 0, 0),
     }
 }
 
@@ -76,9 +76,8 @@ pub fn depict(text: &[u8], place: &mut [u8]) -> usize
     if place.len() < PICTURE_ROOM {
         return 0;
     }
-    let sheet = reading::read(text);
-    if sheet.refusal != 0 {
-        return writing::write_refusal(place, sheet.refusal, sheet.line, sheet.field);
+    match reading::read(text) {
+        Ok(sheet) => draw(sheet, place),
+        Err(refused) => refuse(refused, place),
     }
-    draw(sheet, place)
 }
