@@ -1,39 +1,71 @@
 -- The promise of `write_pbm`: what an answer states is the request's number and count, and no second outcome satisfies it.
-use mathlib.Core.Path.{◌≡◌, sym, ◌∙◌, ap}
-use mathlib.Core.Bool.{Bool, true, false}
+use mathlib.Core.Path.{◌≡◌, refl, sym, ◌∙◌, ap}
 use mathlib.Core.List.{List}
-use Prim.Native.Nat.{ℕ}
+use Prim.Native.Nat.{ℕ, zero, suc}
+use native.Mathlib.Omega.{arith}
 use lib.ListN.{length}
+use Rattle.std.proofs.Common.{Result, Ok, Err}
+use Rattle.std.specs.Result.{IsErrAnd}
+use Rattle.page.specs.declared.Refusal.{Refusal}
+use Rattle.page.specs.Numbers.{by_number, passed}
 use Rattle.page.proofs.Rows.{unless_ap, unless_refused, unless_none}
+use Rattle.page.proofs.Numbers.{Names, first_names, unless_number}
 use Rattle.pbm.specs.Writing.{picture_text}
-use Rattle.pbm.specs.Refusals.{write_refusal}
+use Rattle.pbm.specs.Refusals.{write_table, write_refusal}
 use Rattle.writing.specs.Steps.{Put}
 use Rattle.writing.proofs.Puts.{put_over}
-use Rattle.printing.specs.declared.Printed.{Printed}
-use Rattle.printing.specs.declared.Printed.TheVariants as Printed
-use Rattle.printing.specs.Answers.{printed, printed_place, states_printing, counted}
+use Rattle.printing.specs.Answers.{printed, printed_place, states_printing, Counted, counted}
 use Rattle.printing.specs.Promises.{PrintPromise, OnePrint}
 
--- a refusal and not a text
-abbrev pub is_refused : Printed → Bool
-is_refused (Printed.Bytes n) = false
-is_refused (Printed.Refused n) = true
+-- ---- every number of the table names a refusal
+named : (k r n : ℕ) → (write_refusal k r n ≡ 0 → ⊥) → Names (write_refusal k r n)
+unfolding write_table by_number
+named k r n = first_names (write_table k r n) (refl, (refl, tt))
+
+-- ---- what was tried is refused by the number's refusal, or is let through
+abbrev refuses : ℕ → Result ℕ Refusal
+refuses n = Err (by_number n)
+
+abbrev refuse : Refusal → Result ℕ Refusal
+refuse e = Err e
+
+abbrev answers : ℕ → Result ℕ Refusal
+answers n = Ok n
+
+abbrev refused_by : ℕ → Counted
+refused_by n = record { number = n; bytes = 0 }
+
+by_row : (m : ℕ) {e : Refusal} → passed m ≡ Err e → (m ≡ 0 → ⊥) × (e ≡ by_number m)
+by_row zero f = absurd (cc)
+by_row (suc m) f = (λ z. omega arith, cc)
+
+pub let_through : (m : ℕ) → passed m ≡ Ok tt → m ≡ 0
+let_through zero f = refl
+let_through (suc m) f = absurd (cc)
+
+pub handed_up : (r : Result ℕ Refusal) (e : Refusal) → IsErrAnd r (λ x. x ≡ e) → r ≡ Err e
+handed_up (Ok n) e h = absurd h
+handed_up (Err x) e h = ap refuse h
 
 module _ (k : ℕ) (raster old : List ℕ) where
   -- it is kept by the definition's answer and place
-  kept : {r : Printed} {now : List ℕ} → r ≡ printed k raster (length old) → now ≡ printed_place k raster old → PrintPromise k raster old r now
+  kept : {r : Result ℕ Refusal} {now : List ℕ} → r ≡ printed k raster (length old) → now ≡ printed_place k raster old → PrintPromise k raster old r now
   unfolding printed counted
-  kept e p = (e, ap states_printing e ∙ unless_ap states_printing (write_refusal k (length raster) (length old)) _ _, p)
+  kept e p =
+      let n : ℕ = write_refusal k (length raster) (length old) in
+      (e, ap states_printing e ∙ unless_ap states_printing n _ _ ∙ unless_number refused_by _ n (named k (length raster) (length old)), p)
 
-  -- where a row holds: its number, and the place as it was
-  pub print_refused : {n : ℕ} → n ≡ write_refusal k (length raster) (length old) → (n ≡ 0 → ⊥) → PrintPromise k raster old (Printed.Refused n) old
+  -- where a row holds: its refusal, and the place as it was
+  pub print_refused : {r : Result ℕ Refusal} {e : Refusal} → IsErrAnd r (λ x. x ≡ e) → passed (write_refusal k (length raster) (length old)) ≡ Err e → PrintPromise k raster old r old
   unfolding printed printed_place
-  print_refused e h = kept (ap Printed.Refused e ∙ unless_refused Printed.Refused _ _ (λ z. h (e ∙ z))) (unless_refused (λ n. old) _ _ (λ z. h (e ∙ z)))
+  print_refused {r} {e} u f =
+      let h = by_row (write_refusal k (length raster) (length old)) f in
+      kept (handed_up r e u ∙ ap refuse h.1 ∙ unless_refused refuses _ _ h.0) (unless_refused (λ n. old) _ _ h.0)
 
   -- where none does: the text is put at the beginning
-  pub print_done : {r : ℕ} {now : List ℕ} → write_refusal k (length raster) (length old) ≡ 0 → Put 0 (picture_text k raster) old now r → PrintPromise k raster old (Printed.Bytes r) now
+  pub print_done : {r : ℕ} {now : List ℕ} → write_refusal k (length raster) (length old) ≡ 0 → Put 0 (picture_text k raster) old now r → PrintPromise k raster old (Ok r) now
   unfolding printed printed_place
-  print_done e p = let (ends, over) = put_over p in kept (ap Printed.Bytes ends ∙ unless_none Printed.Refused _ _ e) (over ∙ unless_none _ _ _ e)
+  print_done e p = let (ends, over) = put_over p in kept (ap answers ends ∙ unless_none refuses _ _ e) (over ∙ unless_none _ _ _ e)
 
 -- and by nothing else
 pub one_print : OnePrint

@@ -9,16 +9,11 @@ ghost use Rattle.pbm.specs.Writing.{head_text};
 ghost use Rattle.writing.specs.Steps.{Put};
 ghost use Rattle.printing.specs.Promises.{PrintPromise};
 
-// The number of bytes written, or a refusal.
-#[derive(Clone, Copy)]
-pub enum Printed {
-    Bytes(usize),
-    Refused(u32),
-}
+use page::Refusal;
 
-const SPACE: u8 = 32;
+const SPACE: u8 = b' ';
 
-const LF: u8 = 10;
+const LF: u8 = b'\n';
 
 // `P1`, and the two sizes.
 fn put_head(place: &mut [u8], side: u32) -> usize
@@ -30,16 +25,13 @@ fn put_head(place: &mut [u8], side: u32) -> usize
     writing::put_field(place, second, side, LF)
 }
 
-// Writes the raster of depth k: the byte at q·2^k + p is that of column p, row q, and row 0 is the bottom row.
-pub fn write_pbm(k: u32, raster: &[u8], place: &mut [u8]) -> Printed
+// Writes the raster of depth k: the byte at q·2^k + p is that of column p, row q, and row 0 is the bottom row. The number of bytes written, or a refusal.
+pub fn write_pbm(k: u32, raster: &[u8], place: &mut [u8]) -> Result<usize, Refusal>
     ensures { PrintPromise k raster.now place.old result place.new }
 {
-    let number = refusals::print_refusal(k, raster.len(), place.len());
-    if number != 0 {
-        return Printed::Refused(number);
-    }
+    refusals::print_refusal(k, raster.len(), place.len())?;
     let side = refusals::side(k);
     let at = put_head(place, side);
     let end = rows::put_rows(place, at, raster, side as usize);
-    Printed::Bytes(end)
+    Ok(end)
 }

@@ -3,6 +3,9 @@ ghost use Rattle.std.specs.Prelude.{◌≡◌, ◌^◌, ◌≤◌, length};
 ghost use Rattle.page.specs.ListingText.{decimal};
 ghost use Rattle.pbm.specs.Writing.{text_length};
 ghost use Rattle.pbm.specs.Refusals.{write_refusal};
+ghost use Rattle.page.specs.Numbers.{passed};
+
+use page::Refusal;
 
 // 2^k
 pub fn side(k: u32) -> u32
@@ -32,16 +35,19 @@ fn text_length(k: u32) -> usize
     5 + 2 * digits(side) + side * (side + (side + 69) / 70)
 }
 
-// The number of the first condition that holds, 0 where none does.
-pub fn print_refusal(k: u32, bytes: usize, entries: usize) -> u32
-    ensures { result ≡ write_refusal k bytes entries }
+// The first condition that holds refuses.
+pub fn print_refusal(k: u32, bytes: usize, entries: usize) -> Result<(), Refusal>
+    ensures { result ≡ passed (write_refusal k bytes entries) }
 {
     if 7 < k {
-        return 3;
+        return Err(Refusal::Depth);
     }
     let side = side(k) as usize;
     if bytes < side * side {
-        return 7;
+        return Err(Refusal::Place);
     }
-    if entries < text_length(k) { 7 } else { 0 }
+    if entries < text_length(k) {
+        return Err(Refusal::Place);
+    }
+    Ok(())
 }

@@ -6,13 +6,13 @@ ghost use Rattle.printing.specs.Steps.{digit_bytes};
 
 use writing::put_byte;
 
-const LF: u8 = 10;
+const LF: u8 = b'\n';
 
 // `1` for a coloured byte, `0` for any other.
 fn digit(byte: u8) -> u8
     ensures { result ≡ 48 + bit byte }
 {
-    if byte == 1 { 49 } else { 48 }
+    if byte == 1 { b'1' } else { b'0' }
 }
 
 // Whether an LF follows column p of a row with so many columns: at most 128, so that only one line can be full.
@@ -21,10 +21,7 @@ fn ends_line(p: usize, side: usize) -> bool
     ensures { result ≡ ends_line side p }
 {
     let count = p + 1;
-    if count == 70 {
-        return true;
-    }
-    count == side
+    count == 70 || count == side
 }
 
 // The digit of column p, and the LF where one follows.
@@ -46,10 +43,8 @@ fn put_row(place: &mut [u8], at: usize, raster: &[u8], q: usize, side: usize) ->
 {
     let from = q * side;
     let mut end = at;
-    let mut p = 0;
-    while p < side {
+    for p in 0..side {
         end = put_digit(place, end, raster[from + p], p, side);
-        p += 1;
     }
     end
 }
@@ -60,10 +55,8 @@ pub fn put_rows(place: &mut [u8], at: usize, raster: &[u8], side: usize) -> usiz
     ensures { Put at (rows_text side raster.now) place.old place.new result }
 {
     let mut end = at;
-    let mut n = 0;
-    while n < side {
+    for n in 0..side {
         end = put_row(place, end, raster, side - 1 - n, side);
-        n += 1;
     }
     end
 }

@@ -1,5 +1,4 @@
 -- `printing::put_head` meets its contract.
-use borrow.Author.Rules.{rules}
 use mathlib.Core.List.{append_assoc}
 use native.Mathlib.Omega.{arith}
 use lib.ListN.{length}
@@ -20,9 +19,6 @@ pub put_field-requires : goal.put_field-requires
 put_field-requires c =
     let side = c.args.side in
     omega (arith, head_length side, c.put_word-first.ensures.put.ends, field_end side _ (length (decimal side)) (omega arith) c.put_field-second.ensures)
-
-pub shape_of-place : goal.shape_of-place
-shape_of-place c = search rules
 
 pub returns : goal.returns
 unfolding head_text

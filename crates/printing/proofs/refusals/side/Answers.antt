@@ -1,5 +1,4 @@
 -- `printing::refusals::side` meets its contract.
-use borrow.Author.Rules.{rules}
 use mathlib.Core.Path.{◌≡◌, ◌∙◌}
 use Prim.Native.Nat.{◌*◌, ◌%◌, ◌^◌, ◌≤◌}
 use native.Mathlib.Nat.{one-mul}
@@ -7,9 +6,6 @@ use native.Mathlib.Omega.{arith}
 use lib.Pow.{shl_exact, pow_mono}
 use lib.Dec.{lit<}
 use Rattle.printing.proofs.refusals.side.Goals as goal
-
-pub overflow_shl-result : goal.overflow_shl-result
-overflow_shl-result c = search rules
 
 pub returns : goal.returns
 returns c =

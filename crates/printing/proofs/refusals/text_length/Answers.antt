@@ -1,5 +1,4 @@
 -- `printing::refusals::text_length` meets its contract.
-use borrow.Author.Rules.{rules}
 use mathlib.Core.Path.{◌≡◌, ap}
 use Prim.Native.Nat.{◌+◌, ◌*◌, ◌/◌, ◌^◌}
 use native.Mathlib.Omega.{arith}
@@ -8,27 +7,6 @@ use Rattle.page.specs.ListingText.{decimal}
 use Rattle.pbm.specs.Writing.{text_length}
 use Rattle.printing.proofs.Squares.{rows_small}
 use Rattle.printing.proofs.refusals.text_length.Goals as goal
-
-pub side-side-requires : goal.side-side-requires
-side-side-requires c = search rules
-
-pub overflow_cast-side : goal.overflow_cast-side
-overflow_cast-side c = search rules
-
-pub digits-requires : goal.digits-requires
-digits-requires c = search rules
-
-pub overflow_mul-result : goal.overflow_mul-result
-overflow_mul-result c = search rules
-
-pub overflow_add-result : goal.overflow_add-result
-overflow_add-result c = search rules
-
-pub overflow_add-result-2 : goal.overflow_add-result-2
-overflow_add-result-2 c = search rules
-
-pub overflow_add-result-3 : goal.overflow_add-result-3
-overflow_add-result-3 c = search rules
 
 pub overflow_mul-result-2 : goal.overflow_mul-result-2
 overflow_mul-result-2 c = omega (arith, rows_small c.side-side.result c.side-side.ensures.1)

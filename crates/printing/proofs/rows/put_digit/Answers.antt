@@ -1,5 +1,4 @@
 -- `printing::rows::put_digit` meets its contract.
-use borrow.Author.Rules.{rules}
 use mathlib.Core.Path.{◌≡◌, sym, ◌∙◌}
 use mathlib.Core.Bool.{true, false}
 use native.Mathlib.Omega.{arith}
@@ -7,31 +6,16 @@ use Rattle.pbm.specs.Writing.{ends_line}
 use Rattle.printing.proofs.Columns.{ended_length, put_ended, put_plain}
 use Rattle.printing.proofs.rows.put_digit.Goals as goal
 
-pub digit-requires : goal.digit-requires
-digit-requires c = search rules
-
-pub put_byte-end-requires : goal.put_byte-end-requires
-put_byte-end-requires c = search rules
-
-pub ends_line-requires : goal.ends_line-requires
-ends_line-requires c = search rules
-
 pub put_byte-requires : goal.put_byte-requires
 put_byte-requires c =
     let follows : let a = c.args in ends_line a.side a.p ≡ true = sym c.ends_line.ensures ∙ c.if-ends_line.true in
     omega (arith, c.put_byte-end.ensures.put.ends, c.requires.2, ended_length c.args.side c.args.byte c.args.p follows)
-
-pub shape_of-place-then-ends_line : goal.shape_of-place-then-ends_line
-shape_of-place-then-ends_line c = search rules
 
 pub returns-then-ends_line : goal.returns-then-ends_line
 returns-then-ends_line c =
     let follows : let a = c.args in ends_line a.side a.p ≡ true = sym c.ends_line.ensures ∙ c.if-ends_line.true in
     let a = c.args in
     put_ended a.side a.byte a.p c.digit.ensures c.put_byte-end.ensures follows c.put_byte.ensures
-
-pub shape_of-place : goal.shape_of-place
-shape_of-place c = search rules
 
 pub returns : goal.returns
 returns c =

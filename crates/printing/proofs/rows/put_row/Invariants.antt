@@ -1,4 +1,3 @@
-use Prim.Native.Nat.{◌-◌}
 use Rattle.algebra.specs.Sum.{span}
 use Rattle.writing.proofs.Puts.{Putting}
 use Rattle.pbm.specs.Writing.{digit_text}
@@ -6,6 +5,3 @@ use Rattle.printing.proofs.rows.put_row.Given as goal
 
 abbrev pub invariant-loop-p : goal.invariant-loop-p
 invariant-loop-p l = Putting (digit_text l.side l.raster l.q) (span 0 l.side) l.at l.initial.place l.place l.end l.p
-
-abbrev pub decreases-loop-p : goal.decreases-loop-p
-decreases-loop-p l = l.side - l.p

@@ -6,6 +6,3 @@ use Rattle.printing.proofs.rows.put_rows.Given as goal
 
 abbrev pub invariant-loop-n : goal.invariant-loop-n
 invariant-loop-n l = Putting (λ n. row_text l.side l.raster (l.side - 1 - n)) (span 0 l.side) l.at l.initial.place l.place l.end l.n
-
-abbrev pub decreases-loop-n : goal.decreases-loop-n
-decreases-loop-n l = l.side - l.n
