@@ -17,15 +17,14 @@ use Rattle.pbm.specs.Writing.{picture_text, text_length}
 use Rattle.pbm.specs.Refusals.{write_refusal}
 use Rattle.pbm.specs.PictureText.{picture_after}
 use Rattle.pbm.proofs.Lengths.{text_long}
-use Rattle.printing.specs.declared.Printed.{Printed}
-use Rattle.printing.specs.declared.Printed.TheVariants as Printed
+use Rattle.std.specs.Prelude.{Result, Ok, Err}
+use Rattle.page.specs.declared.Refusal.{Refusal}
 use Rattle.printing.specs.Answers.{printed, printed_place, states_printing}
 use Rattle.printing.specs.Promises.{PrintPromise}
-use Rattle.printing.proofs.Promises.{is_refused}
 use Rattle.printing.proofs.Refusing.{passes}
-use Rattle.reading.specs.declared.Reading.{Reading}
-use Rattle.reading.specs.Answers.{reading_of}
-use Rattle.walk.specs.declared.Tallied.{Tallied}
+use Rattle.reading.specs.declared.Sheet.{Sheet}
+use Rattle.reading.specs.Answers.{whole}
+use Rattle.marks.specs.declared.Seen.{Seen}
 use Rattle.walk.specs.Answers.{rastered}
 use Rattle.walk.specs.Promises.{RasterPromise}
 use Rattle.writing.specs.Steps.{Put}
@@ -48,7 +47,7 @@ text_short (suc (suc (suc (suc (suc (suc (suc zero))))))) h = omega arith
 text_short (suc (suc (suc (suc (suc (suc (suc (suc k)))))))) h = absurd (omega arith)
 
 -- ---- the raster that is painted is the one that the text says
-pub painted_from : {sheet : Reading} (w : Said) → sheet ≡ reading_of (accepted w) → (old : List ℕ) {now : List ℕ} {r : Tallied}
+pub painted_from : {sheet : Sheet} (w : Said) → sheet ≡ whole w → (old : List ℕ) {now : List ℕ} {r : Result Seen Refusal}
     → RasterPromise (sheet_of sheet.d (take (count sheet.d) sheet.coefficients) sheet.x sheet.y sheet.s sheet.k) sheet.mode old r now → RasterPromise (sheet_in w) w.mode old r now
 painted_from w e old {now} {r} p = of_said (λ S mode. RasterPromise S mode old r now) w e p
 
@@ -57,7 +56,7 @@ module _ (w : Said) (passed : refusal (to_read w) ≡ 0) where
   cells = raster (seen w passed) w.k
 
   -- ---- the raster stands at the beginning of a place of 16,384 bytes
-  module _ (old : List ℕ) {now : List ℕ} (long : length old ≡ 16_384) {r : Tallied} (p : RasterPromise (sheet_in w) w.mode old r now) where
+  module _ (old : List ℕ) {now : List ℕ} (long : length old ≡ 16_384) {r : Result Seen Refusal} (p : RasterPromise (sheet_in w) w.mode old r now) where
     left : now ≡ cells ++ drop (4 ^ w.k) old
     unfolding rastered
     left = p.2 ∙ sym (unless_none (λ n. old) _ _ (walks w passed long))
@@ -69,43 +68,44 @@ module _ (w : Said) (passed : refusal (to_read w) ≡ 0) where
     cells_within = let a = length-append cells (drop (4 ^ w.k) old) in let b = ap length left in let c = raster_long (seen w passed) w.k in omega (arith, a, b, c)
 
   -- ---- it is written, and refused by no number
-  module _ (place : List ℕ) (h : picture_room ≤ length place) {place' : List ℕ} {r : Printed} (p : PrintPromise w.k cells place r place') where
+  module _ (place : List ℕ) (h : picture_room ≤ length place) {place' : List ℕ} {r : Result ℕ Refusal} (p : PrintPromise w.k cells place r place') where
     fine : write_refusal w.k (length cells) (length place) ≡ 0
     fine =
         let c = raster_long (seen w passed) w.k in let s = text_short w.k (depth w passed) in
         sym (passes w.k (length cells) (length place) (depth w passed) (omega (arith, c)) (omega (arith, s, h)))
 
-    answered : r ≡ Printed.Bytes (length (picture_text w.k cells))
+    answered : r ≡ Ok (length (picture_text w.k cells))
     unfolding printed
-    answered = p.0 ∙ sym (unless_none Printed.Refused _ _ fine)
+    answered = p.0 ∙ sym (unless_none _ _ _ fine)
 
     written : place' ≡ picture_text w.k cells ++ drop (length (picture_text w.k cells)) place
     unfolding printed_place
     written = p.2 ∙ sym (unless_none (λ n. place) _ _ fine)
 
-    pub not_refused : {n : ℕ} → r ≡ Printed.Refused n → ⊥
-    not_refused e = subst T (sym (ap is_refused e) ∙ ap is_refused answered) tt
+    pub not_refused : {e : Refusal} → r ≡ Err e → ⊥
+    not_refused e = let a = answered in cc
 
-    pub draws : {n : ℕ} → r ≡ Printed.Bytes n → Put 0 (picture_after (accepted w)) place place' n
-    draws e =
+    pub draws : {n : ℕ} → r ≡ Ok n → Put 0 (picture_after (accepted w)) place place' n
+    draws {n} e =
         let long = text_long w.k cells in let s = text_short w.k (depth w passed) in
-        over_put (omega (arith, long, s, h)) (ap (λ r. (states_printing r).bytes) (sym e ∙ answered)) written
+        let same : n ≡ length (picture_text w.k cells) = ap (λ r. (states_printing r).bytes) (sym e ∙ answered) in
+        over_put (omega (arith, long, s, h)) same written
 
 -- ---- for a sheet that was read from an accepted text
-pub deep : {sheet : Reading} → FromText sheet → sheet.k ≤ 7
+pub deep : {sheet : Sheet} → FromText sheet → sheet.k ≤ 7
 deep f = subst (λ r. r.k ≤ 7) (sym f.read) (depth f.said f.passed)
 
-module _ {sheet : Reading} (w : Said) (passed : refusal (to_read w) ≡ 0) (read : sheet ≡ reading_of (accepted w)) where
+module _ {sheet : Sheet} (w : Said) (passed : refusal (to_read w) ≡ 0) (read : sheet ≡ whole w) where
   count_is : {m : ℕ} → m ≡ 4 ^ sheet.k → m ≡ 4 ^ w.k
   count_is e = e ∙ ap (λ s. 4 ^ s.k) read
 
-  module _ (old : List ℕ) {now : List ℕ} (long : length old ≡ 16_384) {t : Tallied} (p : RasterPromise (sheet_in w) w.mode old t now) {m : ℕ} (e : m ≡ 4 ^ sheet.k) where
+  module _ (old : List ℕ) {now : List ℕ} (long : length old ≡ 16_384) {t : Result Seen Refusal} (p : RasterPromise (sheet_in w) w.mode old t now) {m : ℕ} (e : m ≡ 4 ^ sheet.k) where
     pub count_within : m ≤ length now
     count_within = subst (λ n. n ≤ length now) (sym (count_is e)) (cells_within w passed old long p)
 
     first_ones : take m now ≡ cells w passed
     first_ones = ap (λ n. take n now) (count_is e) ∙ first_cells w passed old long p
 
-    pub printed_from : (place : List ℕ) {place' : List ℕ} {r : Printed} → PrintPromise sheet.k (take m now) place r place' → PrintPromise w.k (cells w passed) place r place'
+    pub printed_from : (place : List ℕ) {place' : List ℕ} {r : Result ℕ Refusal} → PrintPromise sheet.k (take m now) place r place' → PrintPromise w.k (cells w passed) place r place'
     printed_from place {place'} {r} q =
         subst (λ k. PrintPromise k (cells w passed) place r place') (ap (λ s. s.k) read) (subst (λ bytes. PrintPromise sheet.k bytes place r place') first_ones q)

@@ -1,4 +1,4 @@
--- What a text comes to, by the number that reading it answers.
+-- What a text comes to, by what reading it answers.
 use mathlib.Core.Path.{◌≡◌, refl, sym, ◌∙◌, ap, subst}
 use mathlib.Core.Bool.{Bool, true, false, cond}
 use mathlib.Core.List.{List}
@@ -11,11 +11,15 @@ use Rattle.page.specs.SheetLine.{lines}
 use Rattle.page.specs.SheetText.{Said, Text, bad_line, well_formed, text_of, to_read, Outcome, refused, accepted, outcome_of, outcome}
 use Rattle.page.specs.ListingText.{refused_line}
 use Rattle.page.proofs.ReadFacts.{read_never}
-use Rattle.reading.specs.declared.Reading.{Reading}
+use Rattle.std.specs.Prelude.{Result, Ok, Err}
+use Rattle.page.specs.Numbers.{number_of, by_number}
+use Rattle.reading.specs.declared.Sheet.{Sheet}
+use Rattle.reading.specs.declared.Refused.{Refused}
 use Rattle.reading.specs.Answers.{reading_of, reading}
 use Rattle.reading.specs.Promises.{ReadPromise}
+use Rattle.reading.proofs.Facts.{reading_named}
 use Rattle.writing.specs.Steps.{Put}
-use Rattle.reply.specs.Steps.{FromText, Tells}
+use Rattle.reply.specs.Steps.{FromText, Tells, TellsRefused}
 
 -- ---- a refusal has a number, and an accepted text passes the table
 abbrev Kept : Outcome → Type 0
@@ -42,35 +46,34 @@ kept text = by (ltb 8_192 (length text)) (λ n line field e. (read_never text n 
     by true h = λ z. omega arith
     by false h = kept_text (text_of (lines text)) h
 
--- ---- so where the number is 0 there is a sheet, and else a refusal
-from_outcome : (o : Outcome) → Kept o → (reading_of o).refusal ≡ 0 → FromText (reading_of o)
-from_outcome (refused n line field) k e = absurd (k e)
-from_outcome (accepted w) k e = record { said = w; passed = k; read = refl }
+-- ---- so where there is a sheet it is the one that an accepted text says
+module _ (text : List ℕ) {sheet : Sheet} (e : ReadPromise text (Ok sheet)) where
+  from_outcome : (o : Outcome) → Kept o → Ok sheet ≡ reading_of o → FromText sheet
+  from_outcome (refused n line field) k q = absurd (cc)
+  from_outcome (accepted w) k q = record { said = w; passed = k; read = cc }
 
--- the sheet is what reading the text answers
-module _ (text : List ℕ) {sheet : Reading} (e : ReadPromise text sheet) where
-  is_read : sheet ≡ reading_of (outcome text)
+  pub from_text : FromText sheet
   unfolding reading
-  is_read = e
-
-  pub from_text : sheet.refusal ≡ 0 → FromText sheet
-  from_text z = subst FromText (sym is_read) (from_outcome (outcome text) (kept text) (sym (ap (λ s. s.refusal) is_read) ∙ z))
+  from_text = from_outcome (outcome text) (kept text) e
 
 -- ---- what is told of a text: of a refusal its line, of an accepted one what is told of its sheet
-module _ (told : Outcome → List ℕ) (refusals : (n line field : ℕ) → told (refused n line field) ≡ refused_line n line field) {old now : List ℕ} {r : ℕ} where
-  accepted_after : (o : Outcome) → Kept o → (reading_of o).refusal ≡ 0 → Tells told (reading_of o) old now r → Put 0 (told o) old now r
-  accepted_after (refused n line field) k e f = absurd (k e)
-  accepted_after (accepted w) k e f = f w k refl
+module _ (told : Outcome → List ℕ) (refusals : (n line field : ℕ) → told (refused n line field) ≡ refused_line n line field) {old now : List ℕ} {r : ℕ} (text : List ℕ) where
+  pub accepted_text : {sheet : Sheet} → ReadPromise text (Ok sheet) → Tells told sheet old now r → Put 0 (told (outcome text)) old now r
+  unfolding reading
+  accepted_text {sheet} e f = by (outcome text) (kept text) e
+    where
+      by : (o : Outcome) → Kept o → Ok sheet ≡ reading_of o → Put 0 (told o) old now r
+      by (refused n line field) k q = absurd (cc)
+      by (accepted w) k q = f w k (cc)
 
-  pub accepted_text : (text : List ℕ) {sheet : Reading} → ReadPromise text sheet → sheet.refusal ≡ 0 → Tells told sheet old now r → Put 0 (told (outcome text)) old now r
-  accepted_text text e z f = let s = is_read text e in accepted_after (outcome text) (kept text) (sym (ap (λ t. t.refusal) s) ∙ z) (λ w p q. f w p (s ∙ q))
-
-  refused_after : (o : Outcome) → ((reading_of o).refusal ≡ 0 → ⊥) → Put 0 (refused_line (reading_of o).refusal (reading_of o).line (reading_of o).field) old now r → Put 0 (told o) old now r
-  refused_after (refused n line field) h p = subst (λ bytes. Put 0 bytes old now r) (sym (refusals n line field)) p
-  refused_after (accepted w) h p = absurd (h refl)
-
-  pub refused_text : (text : List ℕ) {sheet : Reading} → ReadPromise text sheet → (sheet.refusal ≡ 0 → ⊥)
-      → Put 0 (refused_line sheet.refusal sheet.line sheet.field) old now r → Put 0 (told (outcome text)) old now r
-  refused_text text e h p =
-      let s = is_read text e in
-      refused_after (outcome text) (λ z. h (ap (λ t. t.refusal) s ∙ z)) (subst (λ t. Put 0 (refused_line t.refusal t.line t.field) old now r) s p)
+  pub refused_text : {e : Refused} → ReadPromise text (Err e) → TellsRefused e old now r → Put 0 (told (outcome text)) old now r
+  unfolding reading
+  refused_text {e} p q = by (outcome text) refl p
+    where
+      by : (o : Outcome) → outcome text ≡ o → Err e ≡ reading_of o → Put 0 (told o) old now r
+      by (refused n line field) f g =
+          let named : e ≡ record { refusal = by_number n; line = line; field = field } = cc in
+          let number : number_of (by_number n) ≡ n = reading_named text n line field f in
+          subst (λ bytes. Put 0 bytes old now r)
+          (ap (λ e. refused_line (number_of e.refusal) e.line e.field) named ∙ ap (λ m. refused_line m line field) number ∙ sym (refusals n line field)) q
+      by (accepted w) f g = absurd (cc)

@@ -22,23 +22,29 @@ use Rattle.page.specs.Steps.{mode_refusal}
 use Rattle.page.proofs.Order.{order_long, order_first}
 use Rattle.page.proofs.Rows.{mode_passed, walk_rows, no_row_9, rest, unless_none}
 use Rattle.page.proofs.TextRows.{read_rows}
-use Rattle.reading.specs.declared.Reading.{Reading}
-use Rattle.reading.specs.Answers.{reading_of}
-use Rattle.walk.specs.declared.Listed.{Listed}
-use Rattle.walk.specs.declared.Listed.TheVariants as Listed
-use Rattle.walk.specs.Answers.{verdicts, listed, states_listing, recorded}
+use Rattle.std.specs.Prelude.{Result, Ok, Err}
+use Rattle.page.specs.declared.Refusal.{Refusal}
+use Rattle.reading.specs.declared.Sheet.{Sheet as Read}
+use Rattle.reading.specs.Answers.{whole}
+use Rattle.marks.specs.declared.Seen.{Seen}
+use Rattle.walk.specs.declared.Records.{Records}
+use Rattle.walk.specs.Answers.{verdicts, tally, listed, recorded}
 use Rattle.walk.specs.Promises.{ListingPromise}
 use Rattle.writing.specs.Steps.{records_text, Put}
 use Rattle.writing.proofs.Tells.{records_tell}
 use Rattle.reply.specs.Steps.{FromText}
 
--- a refusal and not records
-abbrev is_refused : Listed → Bool
-is_refused (Listed.Records l v c b) = false
-is_refused (Listed.Refused n) = true
+-- what an answer holds, where it is no refusal
+abbrev length_in : Result Records Refusal → ℕ
+length_in (Ok l) = l.length
+length_in (Err e) = 0
+
+abbrev tally_in : Seen → Result Records Refusal → Seen
+tally_in t (Ok l) = l.seen
+tally_in t (Err e) = t
 
 -- ---- the sheet that is walked is the one that the text says
-module _ {sheet : Reading} (w : Said) (read : sheet ≡ reading_of (accepted w)) where
+module _ {sheet : Read} (w : Said) (read : sheet ≡ whole w) where
   same_sheet : sheet_of sheet.d (take (count sheet.d) sheet.coefficients) sheet.x sheet.y sheet.s sheet.k ≡ sheet_in w
   same_sheet =
       ap (λ r. sheet_of r.d (take (count r.d) r.coefficients) r.x r.y r.s r.k) read
@@ -77,10 +83,10 @@ module _ (w : Said) (passed : refusal (to_read w) ≡ 0) where
   few : length told ≤ 16_384
   few = let k = fine.ranges.depth in Nat.le_trans (listing_long seen w.k).2 (power_small k)
 
-  module _ (old : List ℕ) {now : List ℕ} (long : length old ≡ 16_384) {r : Listed} (p : ListingPromise (sheet_in w) w.mode old r now) where
-    answered : r ≡ Listed.Records (length told) (visited seen w.k) (coloured seen w.k) (largest_bend seen w.k)
+  module _ (old : List ℕ) {now : List ℕ} (long : length old ≡ 16_384) {r : Result Records Refusal} (p : ListingPromise (sheet_in w) w.mode old r now) where
+    answered : r ≡ Ok (record { length = length told; seen = tally (sheet_in w) w.mode })
     unfolding listed
-    answered = p.0 ∙ sym (unless_none Listed.Refused _ _ (walks long))
+    answered = p.0 ∙ sym (unless_none _ _ _ (walks long))
 
     left : now ≡ told ++ drop (length told) old
     unfolding recorded
@@ -93,43 +99,44 @@ module _ (w : Said) (passed : refusal (to_read w) ≡ 0) where
     first_ones = ap (take (length told)) left ∙ take_at told (drop (length told) old) (length told) refl
 
     -- there is no refusal
-    pub not_refused : {n : ℕ} → r ≡ Listed.Refused n → ⊥
-    not_refused e = subst T (sym (ap is_refused e) ∙ ap is_refused answered) tt
+    pub not_refused : {e : Refusal} → r ≡ Err e → ⊥
+    not_refused e = let a = answered in cc
 
-    module _ {l v c b : ℕ} (e : r ≡ Listed.Records l v c b) where
-      same : Listed.Records l v c b ≡ Listed.Records (length told) (visited seen w.k) (coloured seen w.k) (largest_bend seen w.k)
-      same = sym e ∙ answered
+    module _ {s : Records} (e : r ≡ Ok s) where
+      long_as : s.length ≡ length told
+      long_as = ap length_in (sym e ∙ answered)
 
-      long_as : l ≡ length told
-      long_as = ap (λ r. (states_listing r).length) same
+      tally_as : s.seen ≡ tally (sheet_in w) w.mode
+      tally_as = ap (tally_in s.seen) (sym e ∙ answered)
 
-      first : take l now ≡ told
+      first : take s.length now ≡ told
       first = ap (λ n. take n now) long_as ∙ first_ones
 
-      pub within : l ≤ length now
+      pub within : s.length ≤ length now
       within = let f = few in let a = long_as in let b = as_long in omega (arith, a, f, b)
 
       -- room for its lines
-      pub room_for : 16 * length (take l now) + 28 ≤ 262_172
+      pub room_for : 16 * length (take s.length now) + 28 ≤ 262_172
       room_for = let f = few in let a = ap length first in omega (arith, a, f)
 
-      tells : records_text (take l now) ++ total_line v c ≡ listing_text seen w.k
+      tells : records_text (take s.length now) ++ total_line s.seen.visited s.seen.coloured ≡ listing_text seen w.k
       tells =
-          ap₂ (λ rs t. records_text rs ++ t) first (ap₂ total_line (ap (λ r. (states_listing r).visited) same) (ap (λ r. (states_listing r).coloured) same))
+          ap₂ (λ rs line. records_text rs ++ line) first (ap (λ t. total_line t.visited t.coloured) tally_as)
           ∙ records_tell seen w.k fine.ranges.depth
 
-      pub lists : {place place' : List ℕ} {end : ℕ} → Put 0 (records_text (take l now) ++ total_line v c) place place' end → Put 0 (text_after (accepted w)) place place' end
+      pub lists : {place place' : List ℕ} {end : ℕ}
+          → Put 0 (records_text (take s.length now) ++ total_line s.seen.visited s.seen.coloured) place place' end → Put 0 (text_after (accepted w)) place place' end
       lists {place} {place'} {end} q = subst (λ bytes. Put 0 bytes place place' end) tells q
 
 -- ---- a sheet that was read from an accepted text
-pub small : {sheet : Reading} → FromText sheet → sheet.d ≤ 8
+pub small : {sheet : Read} → FromText sheet → sheet.d ≤ 8
 small f = subst (λ r. r.d ≤ 8) (sym f.read) (degree f.said f.passed)
 
 -- what is true of the sheet that is walked is true of the one that the text says
-pub of_said : (P : Sheet → ℕ → Type 0) {sheet : Reading} (w : Said) → sheet ≡ reading_of (accepted w)
+pub of_said : (P : Sheet → ℕ → Type 0) {sheet : Read} (w : Said) → sheet ≡ whole w
     → P (sheet_of sheet.d (take (count sheet.d) sheet.coefficients) sheet.x sheet.y sheet.s sheet.k) sheet.mode → P (sheet_in w) w.mode
 of_said P {sheet} w e p = subst (P (sheet_in w)) (ap (λ t. t.mode) e) (subst (λ S. P S sheet.mode) (same_sheet w e) p)
 
-pub listed_from : {sheet : Reading} (w : Said) → sheet ≡ reading_of (accepted w) → (old : List ℕ) {now : List ℕ} {r : Listed}
+pub listed_from : {sheet : Read} (w : Said) → sheet ≡ whole w → (old : List ℕ) {now : List ℕ} {r : Result Records Refusal}
     → ListingPromise (sheet_of sheet.d (take (count sheet.d) sheet.coefficients) sheet.x sheet.y sheet.s sheet.k) sheet.mode old r now → ListingPromise (sheet_in w) w.mode old r now
 listed_from w e old {now} {r} p = of_said (λ S mode. ListingPromise S mode old r now) w e p

@@ -1,12 +1,7 @@
 -- `reply::list_records` meets its contract: the sheet that is walked is the one that was read.
-use mathlib.Core.Path.{◌≡◌, sym}
-use Prim.Native.Nat.{◌≤◌}
-use mir.Syntax.{w32}
-use mir.Val.{to_z, of_z}
-use lib.ListN.{length}
+use Rattle.std.proofs.Common.{◌≡◌, ◌≤◌, length, sym, rules, w32, to_z, of_z}
 use lib.Seq.{length-take-le}
 use Rattle.reply.proofs.Telling.{small, enough, listed_from}
-use borrow.Author.Rules.{rules}
 use Rattle.reply.proofs.list_records.Goals as goal
 
 pub count-count-requires : goal.count-count-requires
@@ -21,12 +16,6 @@ pub slice_bounds-listing-end : goal.slice_bounds-listing-end
 slice_bounds-listing-end c =
     let fits : c.count-count.result ≤ length c.args.sheet.coefficients = let f = c.requires in rw c.count-count.ensures (enough f.said f.read) in
     sym (length-take-le c.count-count.result c.args.sheet.coefficients fits)
-
-pub listing-requires : goal.listing-requires
-listing-requires c = search rules
-
-pub shape_of-records : goal.shape_of-records
-shape_of-records c = search rules
 
 pub returns : goal.returns
 returns c w passed read =

@@ -1,13 +1,8 @@
 -- `reply::picture::paint` meets its contract: the sheet that is walked is the one that was read.
-use mathlib.Core.Path.{◌≡◌, sym}
-use Prim.Native.Nat.{◌≤◌}
-use mir.Syntax.{w32}
-use mir.Val.{to_z, of_z}
-use lib.ListN.{length}
+use Rattle.std.proofs.Common.{◌≡◌, ◌≤◌, length, sym, rules, w32, to_z, of_z}
 use lib.Seq.{length-take-le}
 use Rattle.reply.proofs.Telling.{small, enough}
 use Rattle.reply.proofs.Drawing.{painted_from}
-use borrow.Author.Rules.{rules}
 use Rattle.reply.proofs.picture.paint.Goals as goal
 
 pub count-count-requires : goal.count-count-requires
@@ -22,12 +17,6 @@ pub slice_bounds-raster-end : goal.slice_bounds-raster-end
 slice_bounds-raster-end c =
     let fits : c.count-count.result ≤ length c.args.sheet.coefficients = let f = c.requires in rw c.count-count.ensures (enough f.said f.read) in
     sym (length-take-le c.count-count.result c.args.sheet.coefficients fits)
-
-pub raster-requires : goal.raster-requires
-raster-requires c = search rules
-
-pub shape_of-raster : goal.shape_of-raster
-shape_of-raster c = search rules
 
 pub returns : goal.returns
 returns c w passed read =
