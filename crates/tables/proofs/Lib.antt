@@ -5,5 +5,5 @@ pub mod Subtables
 pub mod Rowwise
 pub mod Shifting
 pub mod Both
-pub mod Powers
+pub mod Mapping
 pub mod Values

@@ -1,6 +1,6 @@
 -- `scaling::map_places` meets its contract: row by row, each of the old numbers.
 use native.Mathlib.Omega.{arith}
-use Rattle.tables.proofs.Powers.{mapping_start, mapping_inside, mapping_old, mapping_next, mapping_end}
+use Rattle.tables.proofs.Mapping.{mapping_start, mapping_inside, mapping_old, mapping_next, mapping_end}
 use Rattle.tables.proofs.scaling.map_places.Goals as goal
 
 pub loop-a-init : goal.loop-a-init

@@ -1,4 +1,4 @@
-use Rattle.tables.proofs.Powers.{Mapping}
+use Rattle.tables.proofs.Mapping.{Mapping}
 use Rattle.tables.proofs.scaling.map_places.Given as goal
 
 abbrev pub invariant-loop-a : goal.invariant-loop-a
