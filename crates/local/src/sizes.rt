@@ -10,11 +10,8 @@ pub fn sizes(places: &[i64; 45], count: usize) -> u64
     ensures { result ≡ sizes_of places.now count }
 {
     let mut sum = 0;
-    let mut at = 1;
-    while at < count {
-        let g = places[at];
-        sum += numbers::size(g);
-        at += 1;
+    for at in 1..count {
+        sum += numbers::size(places[at]);
     }
     sum
 }
@@ -23,14 +20,14 @@ pub fn sizes(places: &[i64; 45], count: usize) -> u64
 fn above(g: i64) -> u64
     ensures { result ≡ above_zero g }
 {
-    if 0 < g { g as u64 } else { 0 }
+    g.max(0).unsigned_abs()
 }
 
 fn below(g: i64) -> u64
     requires { nat_abs g < 2 ^ 63 }
     ensures { result ≡ below_zero g }
 {
-    if g < 0 { (0 - g) as u64 } else { 0 }
+    g.min(0).unsigned_abs()
 }
 
 // The places b = from, from + 2, .. of a row of n + 1 places, where the exponents before are even: of the fall what is above 0, of the rise what is below.
@@ -40,12 +37,10 @@ fn spared_row(places: &[i64; 45], first: usize, from: usize, n: usize) -> Spare
 {
     let mut fall = 0;
     let mut rise = 0;
-    let mut b = from;
-    while b <= n {
+    for b in (from..=n).step_by(2) {
         let g = places[first + b];
         fall += above(g);
         rise += below(g);
-        b += 2;
     }
     Spare { fall, rise }
 }
@@ -59,13 +54,11 @@ pub fn spared(places: &[i64; 45], d: usize) -> Spare
     let mut fall = top.fall;
     let mut rise = top.rise;
     let mut first = 2 * d + 1;
-    let mut a = 2;
-    while a <= d {
+    for a in (2..=d).step_by(2) {
         let row = spared_row(places, first, 0, d - a);
         fall += row.fall;
         rise += row.rise;
         first += 2 * (d - a) + 1;
-        a += 2;
     }
     Spare { fall, rise }
 }

@@ -1,4 +1,3 @@
-use Prim.Native.Nat.{◌-◌}
 use lib.IntN.{nat_abs}
 use Rattle.tables.specs.Table.{at}
 use Rattle.local.proofs.Sums.{Added}
@@ -6,6 +5,3 @@ use Rattle.local.proofs.sizes.sizes.Given as goal
 
 abbrev pub invariant-loop-at : goal.invariant-loop-at
 invariant-loop-at l = Added (λ n. nat_abs (at l.places n)) 1 l.count l.at l.sum
-
-abbrev pub decreases-loop-at : goal.decreases-loop-at
-decreases-loop-at l = l.count - l.at

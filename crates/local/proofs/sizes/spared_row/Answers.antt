@@ -16,18 +16,6 @@ loop-b-init c =
     let a = c.args in let row = row_of a.places.now a.first in
     (omega arith, pair_from (evens above_zero row a.from) (evens below_zero row a.from) a.n a.from (omega arith) (evens_before above_zero row a.from) (evens_before below_zero row a.from))
 
-pub overflow_add-g : goal.overflow_add-g
-overflow_add-g c = omega arith
-
-pub offset_bounds-places-first : goal.offset_bounds-places-first
-offset_bounds-places-first c = omega arith
-
-pub bounds-places-first : goal.bounds-places-first
-bounds-places-first c = omega arith
-
-pub above-fall-requires : goal.above-fall-requires
-above-fall-requires c = tt
-
 pub overflow_add-fall : goal.overflow_add-fall
 overflow_add-fall c =
     let above-is : let s = c.args in c.above-fall.result ≡ evens above_zero (row_of s.places.now s.first) s.from c.loop-b.b = let s = c.args in let l = c.loop-b in let row = row_of s.places.now s.first in
@@ -49,12 +37,6 @@ overflow_add-rise c =
     let r = pair_right l.invariant.1 (omega arith) below-is in
     let e = evens_le below_zero (row_of a.places.now a.first) a.from below_le a.n in let h = c.requires.light in record { fits = omega arith }
 
-pub overflow_add-b : goal.overflow_add-b
-overflow_add-b c = omega arith
-
-pub loop-b-smaller : goal.loop-b-smaller
-loop-b-smaller c = omega arith
-
 pub loop-b-preserved : goal.loop-b-preserved
 loop-b-preserved c =
     let above-is : let s = c.args in c.above-fall.result ≡ evens above_zero (row_of s.places.now s.first) s.from c.loop-b.b = let s = c.args in let l = c.loop-b in let row = row_of s.places.now s.first in
@@ -66,3 +48,12 @@ loop-b-preserved c =
 
 pub returns : goal.returns
 returns c = pair_end c.loop-b.invariant.1 (omega arith)
+
+pub returns-2 : goal.returns-2
+returns-2 c =
+    let above-is : let s = c.args in c.above-fall.result ≡ evens above_zero (row_of s.places.now s.first) s.from c.loop-b.b = let s = c.args in let l = c.loop-b in let row = row_of s.places.now s.first in
+    c.above-fall.ensures ∙ ap above_zero (read64 (row l.b) c.g-1.given) ∙ evens_at above_zero row s.from l.b l.invariant.0 l.invariant.1.even in
+    let below-is : let s = c.args in c.below-rise.result ≡ evens below_zero (row_of s.places.now s.first) s.from c.loop-b.b = let s = c.args in let l = c.loop-b in let row = row_of s.places.now s.first in
+    c.below-rise.ensures ∙ ap below_zero (read64 (row l.b) c.g-1.given) ∙ evens_at below_zero row s.from l.b l.invariant.0 l.invariant.1.even in
+    let a = c.args in let l = c.loop-b in let row = row_of a.places.now a.first in
+    pair_end (pair_next l.invariant.1 (evens_only above_zero row a.from) (evens_only below_zero row a.from) (omega arith) above-is below-is) (omega arith)
