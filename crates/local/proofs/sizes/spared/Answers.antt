@@ -11,6 +11,12 @@ use Rattle.local.proofs.sizes.spared.Goals as goal
 pub spared_row-top-requires : goal.spared_row-top-requires
 spared_row-top-requires c = light_row c.requires 0 (sym (row_start_zero c.args.d)) (omega arith) (omega arith) (omega arith)
 
+pub overflow_mul-first : goal.overflow_mul-first
+overflow_mul-first c = omega arith
+
+pub overflow_add-first : goal.overflow_add-first
+overflow_add-first c = omega arith
+
 pub loop-a-init : goal.loop-a-init
 loop-a-init c =
     let p = c.args.places.now in let d = c.args.d in let z = row_start_zero d in
@@ -38,10 +44,22 @@ overflow_add-rise c =
     let r = pair_right c.loop-a.invariant.2 (omega arith) row_is.1 in
     let e = rows_le below_zero c.args.places.now c.args.d below_le in let h = c.requires.light in record { fits = omega arith }
 
+pub overflow_mul-first-in-loop-a : goal.overflow_mul-first-in-loop-a
+overflow_mul-first-in-loop-a c = omega arith
+
+pub overflow_add-first-in-loop-a : goal.overflow_add-first-in-loop-a
+overflow_add-first-in-loop-a c = omega arith
+
 pub overflow_add-first-in-loop-a-2 : goal.overflow_add-first-in-loop-a-2
 overflow_add-first-in-loop-a-2 c =
     let row_here : RowSparable c.args.places.now c.loop-a.first 0 (c.args.d - c.loop-a.a) = let l = c.loop-a in light_row c.requires l.a (l.invariant.1 c.loop-a-test.true) (omega arith) (omega arith) (omega arith) in
     let r = row_here.inside in omega arith
+
+pub overflow_add-a : goal.overflow_add-a
+overflow_add-a c = omega arith
+
+pub loop-a-smaller : goal.loop-a-smaller
+loop-a-smaller c = omega arith
 
 pub loop-a-preserved : goal.loop-a-preserved
 loop-a-preserved c =
@@ -53,11 +71,3 @@ loop-a-preserved c =
 
 pub returns : goal.returns
 returns c = pair_end c.loop-a.invariant.2 (omega arith)
-
-pub returns-2 : goal.returns-2
-returns-2 c =
-    let row_is : let s = c.args in let a = c.loop-a.a in let r = c.spared_row-row.result in
-    (r.fall ≡ rows above_zero s.places.now s.d a) × (r.rise ≡ rows below_zero s.places.now s.d a) = let s = c.args in let l = c.loop-a in
-    row_spared s.places.now s.d l.a c.spared_row-row.ensures (l.invariant.1 c.loop-a-test.true) (omega arith) (omega arith) l.invariant.2.even in
-    let s = c.args in let p = s.places.now in let d = s.d in let l = c.loop-a in let (f, r) = row_is in
-    pair_end (pair_next l.invariant.2 (rows_only above_zero p d) (rows_only below_zero p d) (omega arith) f r) (omega arith)
