@@ -1,15 +1,14 @@
 -- What the even rule spares: how far a number is above and below 0, the even places of a row, and the rows of a table.
-use mathlib.Core.Path.{◌≡◌, refl, sym, ◌∙◌, ap, subst}
+use mathlib.Core.Path.{◌≡◌, refl, sym, ◌∙◌, ap}
 use mathlib.Core.List.{List}
 use mathlib.Core.Bool.{Bool, true, false, cond, ◌&&◌}
-use Prim.Native.Nat.{ℕ, zero, suc, ◌+◌, ◌-◌, ◌*◌, ◌%◌, ◌≤◌, ◌<◌}
+use Prim.Native.Nat.{ℕ, suc, ◌+◌, ◌-◌, ◌*◌, ◌%◌, ◌≤◌, ◌<◌}
 use native.Mathlib.Nat as Nat
 use native.Mathlib.Omega.{arith}
 use native.Mathlib.Decide.{dec_le}
-use borrow.Author.Tests.{ltb-true, ltb-false, leb-true, le-leb, lt-leb, eq-eqb, ne_eqb}
-use lib.Dec.{T, leb, eqb}
+use borrow.Author.Tests.{leb-true, le-leb, lt-leb, eq-eqb, ne_eqb}
+use lib.Dec.{leb, eqb}
 use lib.IntN.{ℤ, pos, negsuc, nat_abs}
-use lib.Signed.{lt_z}
 use Rattle.algebra.specs.Sum.{sumℕ, ◌⋯◌}
 use Rattle.algebra.specs.Triangle.{triangle, row_start}
 use Rattle.algebra.proofs.Sum.{sumℕ_mono, sumℕ_cong, sumℕ_zero, sumℕ_member}
@@ -21,24 +20,7 @@ use Rattle.local.specs.declared.Spare.{Spare}
 use Rattle.local.specs.Range.{above_zero, below_zero, even_from, row_spare_of, RowSparable, spares, Light}
 use Rattle.local.proofs.Sums.{EvenOnly}
 
--- ---- above and below 0, by the sign
-pub is_above : (g : ℤ) → lt_z (pos 0) g ≡ true → g ≡ pos (above_zero g)
-is_above (pos n) e = refl
-is_above (negsuc n) e = absurd (subst T (sym e) tt)
-
-pub not_above : (g : ℤ) → lt_z (pos 0) g ≡ false → 0 ≡ above_zero g
-not_above (pos zero) e = refl
-not_above (pos (suc n)) e = let h = ltb-false 0 (suc n) e in absurd (omega arith)
-not_above (negsuc n) e = refl
-
-pub is_below : (g : ℤ) → lt_z g (pos 0) ≡ true → nat_abs g ≡ below_zero g
-is_below (pos n) e = let h = ltb-true n 0 e in absurd (omega arith)
-is_below (negsuc n) e = refl
-
-pub not_below : (g : ℤ) → lt_z g (pos 0) ≡ false → 0 ≡ below_zero g
-not_below (pos n) e = refl
-not_below (negsuc n) e = absurd (subst T e tt)
-
+-- ---- above and below 0, no more than the size
 pub above_le : (g : ℤ) → above_zero g ≤ nat_abs g
 above_le (pos n) = Nat.le_refl n
 above_le (negsuc n) = omega arith

@@ -1,15 +1,12 @@
 -- From sizes to the machine's ranges: what is below 2^63 in size fits 64 signed bits, and is read back from its bits.
-use mathlib.Core.Path.{◌≡◌, refl, ◌∙◌, ap, subst}
-use mathlib.Core.Bool.{true, false}
-use Prim.Native.Nat.{ℕ, suc, ◌+◌, ◌*◌, ◌^◌, ◌≤◌, ◌<◌}
+use mathlib.Core.Path.{◌≡◌}
+use Prim.Native.Nat.{ℕ, ◌+◌, ◌*◌, ◌^◌, ◌≤◌, ◌<◌}
 use native.Mathlib.Nat as Nat
 use native.Mathlib.Omega.{arith}
-use lib.Dec.{T, ltb}
 use lib.IntN.{ℤ, pos, negsuc, ◌+ℤ◌, ◌-ℤ◌, ◌*ℤ◌, neg_ℤ, nat_abs}
-use lib.Signed.{mag, lt_z}
-use borrow.Author.Tests.{ltb-true}
+use lib.Signed.{mag}
 use mir.Syntax.{w64}
-use mir.Val.{Fits, SFits, to_z, of_z}
+use mir.Val.{SFits, to_z, of_z}
 use mir.Facts.{to_z-of_z}
 use Rattle.algebra.proofs.Absolute.{nat_abs_neg_ℤ, nat_abs-*ℤ, nat_abs-+ℤ}
 use Rattle.numbers.specs.Room.{Room}
@@ -43,28 +40,6 @@ module _ (x u y h : ℤ) (room : Room x u y h) where
   pub fits_sum : SFits w64 (x *ℤ u +ℤ y *ℤ h)
   fits_sum = fits64 (x *ℤ u +ℤ y *ℤ h)
       (let t = nat_abs-+ℤ (x *ℤ u) (y *ℤ h) in let p = nat_abs-*ℤ x u in let q = nat_abs-*ℤ y h in omega arith)
-
--- ---- the size of z is 0 - z where z is below 0, and z itself elsewhere
-pub turned_back : (z : ℤ) → lt_z z (pos 0) ≡ true → pos 0 -ℤ z ≡ pos (nat_abs z)
-turned_back (pos n) e = let z : ◌≡◌ {A = ℕ} 0 1 = absurd (ltb_none n e) in absurd (omega arith)
-  where
-    ltb_none : (n : ℕ) → ltb n 0 ≡ true → ⊥
-    ltb_none n e = let h = ltb-true n 0 e in omega arith
-turned_back (negsuc n) e = ap pos (Nat.zero-add (suc n))
-
-pub not_below : (z : ℤ) → lt_z z (pos 0) ≡ false → pos (nat_abs z) ≡ z
-not_below (pos n) e = refl
-not_below (negsuc n) e = absurd (subst T e tt)
-
-pub size_fits : (z : ℤ) → nat_abs z < 2 ^ 63 → Fits w64 (nat_abs z)
-size_fits z h = record { fits = omega arith }
-
-module _ (z : ℤ) (h : nat_abs z < 2 ^ 63) (e : lt_z z (pos 0) ≡ true) where
-  back_fits : SFits w64 (pos 0 -ℤ z)
-  back_fits = rw (turned_back z e) (fits64 (pos (nat_abs z)) h)
-
-  pub back_read : to_z w64 (of_z w64 (pos 0 -ℤ z)) ≡ pos (nat_abs z)
-  back_read = to_z-of_z back_fits ∙ turned_back z e
 
 -- ---- a size added or taken away
 module _ (x : ℤ) (n : ℕ) (h : nat_abs x + n < 2 ^ 63) where

@@ -4,7 +4,6 @@ use mathlib.Core.Path.{◌≡◌, ◌∙◌, ap}
 use mathlib.Core.List.{List}
 use Prim.Native.Nat.{ℕ, ◌+◌, ◌-◌, ◌^◌, ◌≤◌, ◌<◌}
 use native.Mathlib.Omega.{arith}
-use borrow.Author.Rules.{rules}
 use lib.IntN.{ℤ, ◌+ℤ◌, ◌-ℤ◌, nat_abs}
 use lib.Signed.{mag}
 use mir.Syntax.{w64}
@@ -38,20 +37,11 @@ module _ {d : ℕ} {places : List ℤ} (one : 1 ≤ d) (light : Light d places) 
         rw (centre_read, step_read one light (small spare.rise), to_z-of_z (plus_fits one light (small spare.rise)))
         (upper_is one light mode total_is spare_is)
 
-pub overflow_add-d : goal.overflow_add-d
-overflow_add-d c = search rules
-
-pub overflow_add-d-2 : goal.overflow_add-d-2
-overflow_add-d-2 c = search rules
-
 pub overflow_mul-d : goal.overflow_mul-d
 overflow_mul-d c = let h = (sizable c.requires.0 c.requires.1).inside in omega arith
 
 pub sizes-total-requires : goal.sizes-total-requires
 sizes-total-requires c = sizable c.requires.0 c.requires.1
-
-pub bounds-places-1 : goal.bounds-places-1
-bounds-places-1 c = search rules
 
 pub size-requires : goal.size-requires
 size-requires c = let r = room c.requires.0 c.requires.1 in let b = bend_rest c.requires.0 c.requires.1 in rw (read64 (at c.args.places.now 1) c.size-arg-1.given) (omega arith)
@@ -61,15 +51,6 @@ overflow_sub-bend c =
     let size_is : c.size.result ≡ nat_abs (at c.args.places.now 1) = c.size.ensures ∙ ap nat_abs (read64 (at c.args.places.now 1) c.size-arg-1.given) in
     let b = bend_rest c.requires.0 c.requires.1 in let e = size_is in omega arith
 
-pub overflow_add-d-3 : goal.overflow_add-d-3
-overflow_add-d-3 c = search rules
-
-pub offset_bounds-places-d : goal.offset_bounds-places-d
-offset_bounds-places-d c = search rules
-
-pub bounds-places-d : goal.bounds-places-d
-bounds-places-d c = search rules
-
 pub size-requires-2 : goal.size-requires-2
 size-requires-2 c = let r = room c.requires.0 c.requires.1 in let b = bend_rest c.requires.0 c.requires.1 in rw (read64 (at c.args.places.now (c.args.d + 1)) c.size-arg-2-1.given) (omega arith)
 
@@ -78,12 +59,6 @@ overflow_sub-bend-2 c =
     let size_is : c.size.result ≡ nat_abs (at c.args.places.now 1) = c.size.ensures ∙ ap nat_abs (read64 (at c.args.places.now 1) c.size-arg-1.given) in
     let size-is-2 : let s = c.args in c.size-2.result ≡ nat_abs (at s.places.now (s.d + 1)) = let s = c.args in c.size-2.ensures ∙ ap nat_abs (read64 (at s.places.now (s.d + 1)) c.size-arg-2-1.given) in
     let b = bend_rest c.requires.0 c.requires.1 in let e = size_is in let f = size-is-2 in omega arith
-
-pub spared_in-spare-requires : goal.spared_in-spare-requires
-spared_in-spare-requires c = search rules
-
-pub bounds-places-0 : goal.bounds-places-0
-bounds-places-0 c = search rules
 
 pub overflow_sub-lower : goal.overflow_sub-lower
 overflow_sub-lower c = fall_within c.requires.0 c.requires.1 c.args.mode c.sizes-total.ensures c.spared_in-spare.ensures

@@ -4,7 +4,6 @@ use Prim.Native.Nat.{ℕ, ◌≤◌}
 use native.Mathlib.Omega.{arith}
 use mathlib.Core.List.{List}
 use lib.IntN.{ℤ}
-use borrow.Author.Rules.{rules}
 use Rattle.algebra.proofs.Choice.{eight_left}
 use Rattle.local.specs.Range.{Light}
 use Rattle.local.proofs.measure.range_on.Goals as goal
@@ -12,9 +11,6 @@ use Rattle.local.proofs.measure.range_on.Goals as goal
 -- the arm of degree n
 arm : {d n : ℕ} {p : List ℤ} → Light d p → 1 ≤ n → d ≡ n → (1 ≤ n) × Light n p
 arm {p = p} l o e = (o, subst (λ n. Light n p) e l)
-
-pub flat_range-requires : goal.flat_range-requires
-flat_range-requires c = search rules
 
 pub range_by-requires : goal.range_by-requires
 range_by-requires c = arm c.requires (omega arith) c.in-1.is
