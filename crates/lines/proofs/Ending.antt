@@ -1,16 +1,16 @@
 -- The fields of a line, counted, and where the first four end.
 use mathlib.Core.Path.{◌≡◌, refl, sym, ◌∙◌, ap, subst}
-use mathlib.Core.Bool.{Bool, true, false, and-true, and-false}
+use mathlib.Core.Bool.{Bool, true, false}
 use mathlib.Core.List.{List, [], ◌∷◌}
 use Prim.Native.Nat.{ℕ, zero, suc, ◌+◌, ◌-◌, ◌≤◌, ◌<◌, min}
 use native.Mathlib.Nat as Nat
 use native.Mathlib.Numerals.{add-one}
 use native.Mathlib.Omega.{arith}
 use borrow.Author.Tests.{ltb-true, ltb-false, lt-ltb, le-ltb}
-use lib.Dec.{ltb, eqb}
+use lib.Dec.{ltb}
 use lib.ListN.{length, get_or, set, take, drop, length-set, length-drop}
 use lib.Seq.{drop-drop, get_or-drop, get_or-set_same, get_or-set_other}
-use Rattle.page.specs.SheetLine.{fields, is_letter}
+use Rattle.page.specs.SheetLine.{fields}
 use Rattle.lines.specs.declared.Parted.{Parted}
 use Rattle.lines.specs.Steps.{start_of, Stands, Parts}
 use Rattle.lines.specs.Steps.{Finds}

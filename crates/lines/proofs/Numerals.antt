@@ -1,18 +1,14 @@
 -- Numbers as they are written, byte by byte.
 use mathlib.Core.Path.{◌≡◌, refl, sym, ◌∙◌, ap}
-use mathlib.Core.Bool.{Bool, true, false, not, ◌&&◌, ◌||◌, cond, and-true, and-false, or-true, false≢true}
+use mathlib.Core.Bool.{Bool, true, false, not, ◌&&◌, ◌||◌, cond, and-true, or-true, false≢true}
 use mathlib.Core.List.{List, [], ◌∷◌}
 use Prim.Native.Nat.{ℕ, zero, suc, ◌+◌, ◌*◌, ◌-◌, ◌^◌, ◌≤◌, ◌<◌, min}
 use native.Mathlib.Omega.{arith}
 use borrow.Author.Rules.{part_to_end}
-use borrow.Author.Tests.{leb-true, ltb-true, ltb-false, lt-ltb, le-ltb, eq-eqb, ne_eqb}
-use mir.Syntax.{w32}
-use mir.Val.{to_z, of_z}
-use mir.Facts.{to_z-neg, to_z-of_z}
+use borrow.Author.Tests.{leb-true, ltb-true, ltb-false, lt-ltb, le-ltb, ne_eqb}
 use lib.Dec.{leb, ltb, eqb}
-use lib.IntN.{ℤ, pos, negsuc, neg_ℤ, nat_abs}
+use lib.IntN.{pos, negsuc, neg_ℤ}
 use lib.ListN.{length, get_or, take, drop}
-use lib.Signed.{mag}
 use Rattle.page.specs.SheetLine.{is_digit, all_digits, is_empty, is_decimal, amount, is_minus, without_sign, is_within}
 use Rattle.std.specs.Prelude.{Ok, Err}
 use Rattle.page.specs.declared.Refusal.{Refusal}
@@ -147,10 +143,3 @@ module _ (negative : Bool) (f : List ℕ) where
 -- the digits, as the part of the field after the sign
 pub after_sign : (f : List ℕ) → is_minus f ≡ true → take (length f - 1) (drop 1 f) ≡ without_sign f
 after_sign f s = part_to_end f 1 ∙ ap (λ t. drop (cond t 1 0) f) (sym s) ∙ sign_off f
-
--- ---- a number that fits 32 bits is that of its bits
-pub read32 : (z : ℤ) → mag z < 2 ^ 31 → to_z w32 (of_z w32 z) ≡ z
-read32 z h = to_z-of_z {w = w32} (record { sfits = h })
-
-pub sized : (z : ℤ) {r : ℕ} → r ≡ nat_abs (to_z w32 (of_z w32 z)) → mag z < 2 ^ 31 → r ≡ nat_abs z
-sized z e h = e ∙ ap nat_abs (read32 z h)

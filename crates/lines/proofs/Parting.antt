@@ -21,10 +21,6 @@ index_here : (c x : ℕ) (l : List ℕ) → eqb x c ≡ true → index_of c (x �
 unfolding index_of
 index_here c x l e = rw e
 
-index_end : (c : ℕ) → index_of c [] ≡ 0
-unfolding index_of
-index_end c = refl
-
 index_on : (c x : ℕ) (l : List ℕ) → eqb x c ≡ false → index_of c (x ∷ l) ≡ suc (index_of c l)
 unfolding index_of
 index_on c x l e = rw e

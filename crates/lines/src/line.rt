@@ -93,6 +93,7 @@ fn closed(line: Numbers, end: usize, n: usize) -> Taken
     requires { end ≤ n }
     ensures { result ≡ closed_at line end n }
 {
+    // by a variable: an array put from field to field is not covered
     let values = line.values;
     if end < n {
         return Taken {

@@ -4,12 +4,12 @@ use mathlib.Core.List.{List, ◌++◌}
 use Prim.Native.Nat.{ℕ, zero, suc, ◌-◌, ◌≤◌}
 use native.Mathlib.Omega.{arith}
 use lib.IntN.{ℤ, pos}
-use lib.ListN.{length, get_or, take, replicate, length-append}
+use lib.ListN.{get_or, take, replicate}
 use Rattle.page.specs.Sheet.{count, sheet_of}
 use Rattle.page.specs.Refusals.{refusal, unless}
 use Rattle.page.specs.SheetText.{Term, coefficient_of, Said, in_order, to_read, well_formed, refused, accepted, outcome_of}
 use Rattle.page.specs.Steps.{mode_refusal}
-use Rattle.page.proofs.Order.{order_long, order_cong, order_first}
+use Rattle.page.proofs.Order.{order_cong, order_first}
 use Rattle.page.proofs.Rows.{unless_none}
 use Rattle.cells.proofs.Refused.{passed_none}
 use Rattle.std.specs.Prelude.{Ok, Err}
@@ -19,11 +19,7 @@ use Rattle.page.proofs.TextRows.{read_rows}
 use Rattle.reading.specs.declared.Head.{Head}
 use Rattle.reading.specs.declared.Sheet.{Sheet}
 use Rattle.reading.specs.Answers.{whole, reading_of}
-use Rattle.reading.specs.Steps.{refused_text, place_of, table_at, gathered_from, said_by}
-
--- among all places are those that count
-pub gathered_long : (d : ℕ) (values : List ℤ) → count d ≤ length (gathered_from d values)
-gathered_long d values = let l = length-append (in_order d (table_at values)) (replicate (45 - count d) (pos 0)) in let o = order_long d (table_at values) in omega arith
+use Rattle.reading.specs.Steps.{refused_text, place_of, gathered_from, said_by}
 
 -- ---- a refusal, or the whole sheet, by what the call's conditions come to
 module _ (w : Said) {n : ℕ} (number : n ≡ refusal (to_read w)) where

@@ -4,7 +4,7 @@ use mathlib.Core.Bool.{Bool, true, false, cond, false≢true}
 use mathlib.Core.List.{List, [], ◌∷◌}
 use Prim.Native.Nat.{ℕ, ◌+◌, ◌≤◌, ◌<◌}
 use native.Mathlib.Omega.{arith}
-use borrow.Author.Tests.{leb-true, le-leb, lt-leb}
+use borrow.Author.Tests.{leb-true, le-leb}
 use lib.Dec.{leb}
 use lib.IntN.{ℤ, pos, nat_abs}
 use lib.ListN.{length, get_or, set, take, drop, length-set}
@@ -28,29 +28,6 @@ abbrev fault_of_term : Taken → ℕ → List ℕ → Result Unit Refusal
 fault_of_term r d named = term_fault_in d (whole_at r.values 0) (whole_at r.values 1) named
 
 module _ (r : Taken) (d : ℕ) (named : List ℕ) where
-  -- the term's, once both exponents are read
-  pub by_term : 2 ≤ r.read → {q : Refusal} → fault_of_term r d named ≡ Err q → Err (record { refusal = q; field = 2 }) ≡ fault_by r d named
-  by_term h e = let a = le-leb 2 r.read h in rw (a, e)
-
-  -- the term has none, or one of the exponents is not read
-  pub term_well : fault_of_term r d named ≡ Ok tt → cond (leb 2 r.read) (fault_of_term r d named) (Ok tt) ≡ Ok tt
-  term_well e = by (leb 2 r.read)
-    where
-      by : (b : Bool) → cond b (fault_of_term r d named) (Ok tt) ≡ Ok tt
-      by true = e
-      by false = refl
-
-  pub term_unread : r.read < 2 → cond (leb 2 r.read) (fault_of_term r d named) (Ok tt) ≡ Ok tt
-  term_unread h = let a = lt-leb 2 r.read h in rw a
-
-  -- then it is the line's, where it has one
-  module _ (w : cond (leb 2 r.read) (fault_of_term r d named) (Ok tt) ≡ Ok tt) where
-    pub by_line : {f : Fault} → r.fault ≡ Some f → Err f ≡ fault_by r d named
-    by_line e = rw (w, e)
-
-    pub by_none : r.fault ≡ None → Ok tt ≡ fault_by r d named
-    by_none e = rw (w, e)
-
   -- where nothing is wrong, the line has no fault, and its term has none, if both exponents are read
   well : fault_by r d named ≡ Ok tt → (r.fault ≡ None) × (2 ≤ r.read → fault_of_term r d named ≡ Ok tt)
   well e = (faultless_line (cond (leb 2 r.read) (fault_of_term r d named) (Ok tt)) r.fault e, λ h. faultless_term (leb 2 r.read) r.fault (le-leb 2 r.read h) e)

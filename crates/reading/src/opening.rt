@@ -1,16 +1,9 @@
 // The first four lines of a text: `D` d; `B` X Y s; `K` k; `M` mode.
-ghost use Rattle.std.specs.Prelude.{◌≡◌, ◌≤◌, nat_abs, length};
+ghost use Rattle.std.specs.Prelude.{◌≡◌, ◌≤◌, length};
 ghost use Rattle.reading.specs.Steps.{head_by, refused_at, HeadLine, HeadRead};
 
 use crate::{Head, Refused};
 use lines::{Fault, Taken, take_line};
-
-// A number without its sign; none that comes here has one.
-pub fn size(z: i32) -> u32
-    ensures { result ≡ nat_abs z }
-{
-    z.unsigned_abs()
-}
 
 // The refusal at a line, by the fault that it has.
 pub fn at_line(line: u32, fault: Fault) -> Refused
@@ -42,19 +35,19 @@ fn head_line(
     }
 }
 
-// What the four lines say, by the numbers of each.
+// What the four lines say, by the numbers of each; of those without a sign the size is the number.
 fn head_of(next: usize, degree: [i32; 3], square: [i32; 3], depth: [i32; 3], mode: [i32; 3]) -> Head
     requires { (length degree ≡ 3) × (length square ≡ 3) × (length depth ≡ 3) × (length mode ≡ 3) }
     ensures { result ≡ head_by next degree square depth mode }
 {
     Head {
         next,
-        d: size(degree[0]),
+        d: degree[0].unsigned_abs(),
         x: square[0],
         y: square[1],
-        s: size(square[2]),
-        k: size(depth[0]),
-        mode: size(mode[0]),
+        s: square[2].unsigned_abs(),
+        k: depth[0].unsigned_abs(),
+        mode: mode[0].unsigned_abs(),
     }
 }
 
@@ -66,9 +59,5 @@ pub fn read_head(text: &[u8]) -> Result<Head, Refused>
     let b = head_line(text, d.next, 2, b'B', 3, [true, true, false])?;
     let k = head_line(text, b.next, 3, b'K', 1, [false, false, false])?;
     let m = head_line(text, k.next, 4, b'M', 1, [false, false, false])?;
-    let degree = d.values;
-    let square = b.values;
-    let depth = k.values;
-    let mode = m.values;
-    Ok(head_of(m.next, degree, square, depth, mode))
+    Ok(head_of(m.next, d.values, b.values, k.values, m.values))
 }

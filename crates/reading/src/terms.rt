@@ -4,7 +4,7 @@ ghost use Rattle.page.specs.SheetLine.{whole_at, number_at};
 ghost use Rattle.reading.specs.Steps.{place_of, term_fault_in, fault_by, Tables, TermTaken, TermsRead};
 
 use crate::Refused;
-use crate::opening::{at_line, size};
+use crate::opening::at_line;
 use lines::{Fault, Taken, take_line};
 use page::Refusal;
 
@@ -35,7 +35,7 @@ fn line_fault(taken: Taken, d: u32, named: &[u8]) -> Result<(), Fault>
 {
     let term = taken.values;
     if 2 <= taken.read {
-        if let Err(refusal) = term_fault(d, size(term[0]), size(term[1]), named) {
+        if let Err(refusal) = term_fault(d, term[0].unsigned_abs(), term[1].unsigned_abs(), named) {
             return Err(Fault { refusal, field: 2 });
         }
     }
@@ -51,7 +51,7 @@ fn enter(term: [i32; 3], values: &mut [i32], named: &mut [u8])
     ensures { (values.new ≡ set values.old (place_of (whole_at term 0) (whole_at term 1)) (number_at term 2))
         × (named.new ≡ set named.old (place_of (whole_at term 0) (whole_at term 1)) 1) }
 {
-    let at = (9 * size(term[0]) + size(term[1])) as usize;
+    let at = (9 * term[0].unsigned_abs() + term[1].unsigned_abs()) as usize;
     named[at] = 1;
     values[at] = term[2];
 }
@@ -69,8 +69,7 @@ fn term_line(
 {
     let taken = take_line(text, at, b'T', 3, [false, false, true]);
     line_fault(taken, d, named)?;
-    let term = taken.values;
-    enter(term, values, named);
+    enter(taken.values, values, named);
     Ok(taken.next)
 }
 
