@@ -22,7 +22,7 @@ returns-in-Err c ts held =
     let same-x : to_z w32 (of_z w32 h.x) ≡ h.x = search rules in
     let same-y : to_z w32 (of_z w32 h.y) ≡ h.y = search rules in
     let told : c.check_mode.result ≡ passed (mode_refusal (sheet_of h.d (take (count h.d) c.gathered-coefficients.result) h.x h.y h.s h.k) h.mode) = rw (same-x, same-y, c.count-count.ensures) at c.check_mode.ensures in
-    ap Err c.refused-in-Err.ensures ∙ judged_refused (said_by h ts) (number_is h c.args.values.now ts held (omega (arith, c.if-d-gt8.false)) c.gathered-coefficients.ensures) (sym told ∙ c.in-Err.is)
+    ap Err c.refused-in-Err.ensures ∙ judged_refused (said_by h ts) (number_is h c.args.values.now ts held (omega arith) c.gathered-coefficients.ensures) (sym told ∙ c.in-Err.is)
 
 pub returns : goal.returns
 returns c ts held =
@@ -31,5 +31,5 @@ returns c ts held =
     let same-y : to_z w32 (of_z w32 h.y) ≡ h.y = search rules in
     let told : c.check_mode.result ≡ passed (mode_refusal (sheet_of h.d (take (count h.d) c.gathered-coefficients.result) h.x h.y h.s h.k) h.mode) = rw (same-x, same-y, c.count-count.ensures) at c.check_mode.ensures in
     rw (same-x, same-y)
-    (ap Ok (reading_is h c.args.values.now ts held (omega (arith, c.if-d-gt8.false)) c.gathered-coefficients.ensures)
-    ∙ judged_accepted (said_by h ts) (number_is h c.args.values.now ts held (omega (arith, c.if-d-gt8.false)) c.gathered-coefficients.ensures) (sym told ∙ c.in_default.is))
+    (ap Ok (reading_is h c.args.values.now ts held (omega arith) c.gathered-coefficients.ensures)
+    ∙ judged_accepted (said_by h ts) (number_is h c.args.values.now ts held (omega arith) c.gathered-coefficients.ensures) (sym told ∙ c.in_default.is))
