@@ -5,6 +5,7 @@ ghost use Rattle.page.specs.Scaled.{IsCell};
 ghost use Rattle.page.specs.LocalForm.{G};
 ghost use Rattle.page.specs.Weight.{Accepted};
 ghost use Rattle.cells.specs.Sheet.{the_sheet};
+ghost use Rattle.cells.specs.Cell.{PartOf};
 
 use crate::Sheet;
 use local::Form;
@@ -15,6 +16,20 @@ pub struct Cell {
     pub level: u32,
     pub column: u32,
     pub row: u32,
+}
+
+impl Cell {
+    // One of its four parts: on its left or its right, 0 or 1, and so below or above.
+    pub fn part(self, right: u32, above: u32) -> Cell
+        requires { (self.level ≤ 7) × (self.column < 128) × (self.row < 128) × (right ≤ 1) × (above ≤ 1) }
+        ensures { PartOf self right above result }
+    {
+        Cell {
+            level: self.level + 1,
+            column: 2 * self.column + right,
+            row: 2 * self.row + above,
+        }
+    }
 }
 
 // 2^(k+1)·X, and so of Y

@@ -5,11 +5,9 @@ use mathlib.Core.List.{List, [], ◌∷◌}
 use Prim.Native.Nat.{ℕ, ◌+◌, ◌*◌, ◌-◌, ◌/◌, ◌^◌, ◌≤◌, ◌<◌}
 use native.Mathlib.Omega.{arith}
 use lib.Dec.{eqb}
-use lib.IntN.{ℤ, nat_abs}
+use lib.IntN.{ℤ, pos, negsuc, nat_abs}
 use lib.ListN.{length}
 use lib.Pow.{pow-add}
-use mir.Syntax.{w32}
-use mir.Val.{Fits}
 use Rattle.verdicts.specs.declared.Verdict.{Verdict}
 use Rattle.verdicts.specs.Judging.{carried_bend}
 use Rattle.verdicts.specs.Walking.{Verdicts, colour_of, record_of}
@@ -27,7 +25,9 @@ use Rattle.tables.specs.Scaling.{Halved}
 use Rattle.local.specs.Range.{Light, range_of, judged_by}
 use Rattle.local.specs.declared.Form.{Form}
 use Rattle.cells.proofs.Forms.{settled_form, cell_light, verdict_by}
-use Rattle.cells.proofs.Parts.{Side, part_near}
+use Rattle.cells.proofs.Parts.{Side, left, right, part_near}
+use Rattle.cells.specs.Cell.{PartOf}
+use Rattle.cells.specs.declared.cell.Cell.{Cell}
 use Rattle.marks.specs.declared.Seen.{Seen}
 use Rattle.marks.specs.Steps.{one_seen, cut_seen, Few}
 use Rattle.walk.specs.Steps.{Counted, OwnForm, NearForm, Owned, Carried}
@@ -115,19 +115,13 @@ own_light {S} {form} {k} {level} {p} {q} o = subst (λ d. Light d form.places) (
 pub own_judged : {S : Sheet} {form : Form} {k level p q : ℕ} → OwnForm S form k level p q → (mode : Mode) → judged_by (range_of form.degree mode (held form.places form.degree)) ≡ verdict S mode level p q
 own_judged {S} {form} {k} {level} {p} {q} o mode = ap (λ d. judged_by (range_of d mode (held form.places d))) o.degree ∙ verdict_by S level p q (held form.places S.d) o.own.each mode
 
--- ---- a cell whose own form is at hand: its numbers are small, and so the columns and rows of its parts fit 32 bits
+-- ---- a cell whose own form is at hand: its numbers are small
 module _ {form : Form} {k level p q : ℕ} (h : Owned form k level p q) where
-  pub own_cell : IsCell k level p q
-  own_cell = subst (λ n. IsCell n level p q) h.own.depth h.own.own.cell
-
   pub depth_small : k ≤ 7
   depth_small = let r = h.own.own.accepted.ranges.depth in let e = h.own.depth in omega arith
 
-  pub column_fits : Fits w32 (2 * p + 1)
-  column_fits = let n = column_small h.own.own.accepted.ranges h.own.own.cell in omega arith
-
-  pub row_fits : Fits w32 (2 * q + 1)
-  row_fits = let n = row_small h.own.own.accepted.ranges h.own.own.cell in omega arith
+  pub numbers_small : (level ≤ 7) × (p < 128) × (q < 128)
+  numbers_small = let r = h.own.own.accepted.ranges in let o = h.own.own.cell in (omega (arith, r.depth, o.level), column_small r o, row_small r o)
 
 -- ---- its parts: the form halved is near to the form of each
 pub carried_part : {form : Form} {places : List ℤ} {k level p q : ℕ} {s z : ℤ} {r t : ℕ} (S : Sheet) → level < k → Side s p r → Side z q t → r ≤ 2 * p + 1 → t ≤ 2 * q + 1 →
@@ -139,3 +133,23 @@ carried_part {form} {places} {k} {level} {p} {q} {s} {z} {r} {t} S l x y i o f h
       depth = f.depth;
       near = part_near S level p q above x y (part_on_grid S.k level p q above f.own.cell r t i o) f.own (subst (λ n. Halved n form.places places) f.degree h);
     }
+
+-- each of the four is so, by its own level, column and row
+module _ {form : Form} {places : List ℤ} {k : ℕ} {cell part : Cell} (S : Sheet) (l : cell.level < k) (f : OwnForm S form k cell.level cell.column cell.row) (h : Halved form.degree form.places places) where
+  pub lower_left : PartOf cell 0 0 part → NearForm S (record { degree = form.degree; places = places }) (negsuc 0) (negsuc 0) k part.level part.column part.row
+  lower_left o =
+      let x : part.column ≡ 2 * cell.column = omega arith in let y : part.row ≡ 2 * cell.row = omega arith in
+      rw (o.level, x, y) (carried_part S l (left cell.column) (left cell.row) (omega arith) (omega arith) f h)
+
+  pub lower_right : PartOf cell 1 0 part → NearForm S (record { degree = form.degree; places = places }) (pos 1) (negsuc 0) k part.level part.column part.row
+  lower_right o =
+      let y : part.row ≡ 2 * cell.row = omega arith in
+      rw (o.level, o.column, y) (carried_part S l (right cell.column) (left cell.row) (omega arith) (omega arith) f h)
+
+  pub upper_left : PartOf cell 0 1 part → NearForm S (record { degree = form.degree; places = places }) (negsuc 0) (pos 1) k part.level part.column part.row
+  upper_left o =
+      let x : part.column ≡ 2 * cell.column = omega arith in
+      rw (o.level, x, o.row) (carried_part S l (left cell.column) (right cell.row) (omega arith) (omega arith) f h)
+
+  pub upper_right : PartOf cell 1 1 part → NearForm S (record { degree = form.degree; places = places }) (pos 1) (pos 1) k part.level part.column part.row
+  upper_right o = rw (o.level, o.column, o.row) (carried_part S l (right cell.column) (right cell.row) (omega arith) (omega arith) f h)

@@ -62,3 +62,7 @@ examined_cut v k level p q l₀ l₁ l₂ l₃ l₄ a b c d l s h₁ h₂ h₃ h
           (painted_four k n p q (λ i. colour_from v (level + 1) n (i % 2 ^ k) (i / 2 ^ k)) l₀ l₁ l₂ l₃ l₄ h₁.painted h₂.painted h₃.painted h₄.painted));
       counted = counted_cut v k level p q a b c d l s h₁.counted h₂.counted h₃.counted h₄.counted;
     }
+
+-- what is examined is the cell that its numbers say
+pub examined_at : {v : Verdicts} {k l m x y r t : ℕ} {old now : List ℕ} {seen : Seen} → l ≡ m → x ≡ y → r ≡ t → Examined v k l x r old now seen → Examined v k m y t old now seen
+examined_at e f g h = rw (← e, ← f, ← g) h

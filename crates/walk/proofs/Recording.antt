@@ -39,6 +39,10 @@ recorded_cut {v} {k} {level} {p} {q} {at} {l₀} {a = a} {b} {c} {d} l s h₁ h�
       counted = counted_cut v k level p q a.seen b.seen c.seen d.seen l s h₁.counted h₂.counted h₃.counted h₄.counted;
     }
 
+-- what is recorded is the cell that its numbers say
+pub recorded_at : {v : Verdicts} {k l m x y r t at : ℕ} {old now : List ℕ} {seen : Records} → l ≡ m → x ≡ y → r ≡ t → Recorded v k l x r at old now seen → Recorded v k m y t at old now seen
+recorded_at e f g h = rw (← e, ← f, ← g) h
+
 -- ---- the room for the records
 -- a cell has a record
 pub room_one : (k level at : ℕ) (old : List ℕ) → at + 4 ^ (k - level) ≤ length old → at < length old

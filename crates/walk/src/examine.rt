@@ -2,6 +2,7 @@
 ghost use Rattle.std.specs.Prelude.{◌^◌, ◌≤◌, ◌<◌, length};
 ghost use Rattle.walk.specs.Steps.{Carried, EachExamined, Owned, EachCut};
 
+use cells::Cell;
 use local::Form;
 use marks::{Seen, bend_of, colour_of, cut_cell, one_cell, paint_block};
 
@@ -15,40 +16,35 @@ pub fn examine(
     along: i64,
     k: u32,
     mode: u32,
-    level: u32,
-    p: u32,
-    q: u32,
+    cell: Cell,
 ) -> Seen
-    requires { Carried form across along k level p q × (4 ^ k ≤ length place.old) }
-    ensures { EachExamined form across along k mode level p q place.old place.new result }
+    requires { Carried form across along k cell.level cell.column cell.row × (4 ^ k ≤ length place.old) }
+    ensures { EachExamined form across along k mode cell.level cell.column cell.row place.old place.new result }
 {
     let n = form.degree as usize;
     tables::to_part(&mut form.places, n, across, along);
     let verdict = local::judge(local::range_on(&form.places, n, mode));
     let colour = colour_of(verdict);
     if colour == 1 {
-        if level < k {
-            return cut(place, form, k, mode, level, p, q);
+        if cell.level < k {
+            return cut(place, form, k, mode, cell);
         }
     }
-    paint_block(place, k, level, p, q, colour);
+    paint_block(place, k, cell.level, cell.column, cell.row, colour);
     one_cell(colour, bend_of(verdict))
 }
 
 // Four parts, in the order lower left, lower right, upper left, upper right. Each is handed the form of the whole, halved, and its side.
 #[cycle(cut_examine)]
-fn cut(place: &mut [u8], mut form: Form, k: u32, mode: u32, level: u32, p: u32, q: u32) -> Seen
-    requires { Owned form k level p q × (4 ^ k ≤ length place.old) × (level < k) }
-    ensures { EachCut form k mode level p q place.old place.new result }
+fn cut(place: &mut [u8], mut form: Form, k: u32, mode: u32, cell: Cell) -> Seen
+    requires { Owned form k cell.level cell.column cell.row × (4 ^ k ≤ length place.old) × (cell.level < k) }
+    ensures { EachCut form k mode cell.level cell.column cell.row place.old place.new result }
 {
     let n = form.degree as usize;
     tables::halve(&mut form.places, n);
-    let next = level + 1;
-    let left = 2 * p;
-    let low = 2 * q;
-    let a = examine(place, form, -1, -1, k, mode, next, left, low);
-    let b = examine(place, form, 1, -1, k, mode, next, left + 1, low);
-    let c = examine(place, form, -1, 1, k, mode, next, left, low + 1);
-    let d = examine(place, form, 1, 1, k, mode, next, left + 1, low + 1);
+    let a = examine(place, form, -1, -1, k, mode, cell.part(0, 0));
+    let b = examine(place, form, 1, -1, k, mode, cell.part(1, 0));
+    let c = examine(place, form, -1, 1, k, mode, cell.part(0, 1));
+    let d = examine(place, form, 1, 1, k, mode, cell.part(1, 1));
     cut_cell(a, b, c, d)
 }

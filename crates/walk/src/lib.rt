@@ -49,7 +49,7 @@ pub fn raster(
     };
     refusals::check_walk(sheet, mode, place.len())?;
     let form = sheet.cell_form(WHOLE);
-    let seen = examine::examine(place, form, 0, 0, k, mode, 0, 0, 0);
+    let seen = examine::examine(place, form, 0, 0, k, mode, WHOLE);
     Ok(seen)
 }
 
@@ -76,6 +76,6 @@ pub fn listing(
     };
     refusals::check_walk(sheet, mode, place.len())?;
     let form = sheet.cell_form(WHOLE);
-    let records = list::list_cell(place, 0, form, 0, 0, k, mode, 0, 0, 0);
+    let records = list::list_cell(place, 0, form, 0, 0, k, mode, WHOLE);
     Ok(records)
 }

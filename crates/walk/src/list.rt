@@ -3,6 +3,7 @@ ghost use Rattle.std.specs.Prelude.{◌-◌, ◌+◌, ◌^◌, ◌≤◌, ◌<�
 ghost use Rattle.walk.specs.Steps.{Carried, EachRecorded, Owned, EachListed};
 
 use crate::Records;
+use cells::Cell;
 use local::Form;
 use marks::{bend_of, cell_record, colour_of, cut_cell, one_cell};
 
@@ -16,23 +17,21 @@ pub fn list_cell(
     along: i64,
     k: u32,
     mode: u32,
-    level: u32,
-    p: u32,
-    q: u32,
+    cell: Cell,
 ) -> Records
-    requires { Carried form across along k level p q × (at + 4 ^ (k - level) ≤ length place.old) }
-    ensures { EachRecorded form across along k mode level p q at place.old place.new result }
+    requires { Carried form across along k cell.level cell.column cell.row × (at + 4 ^ (k - cell.level) ≤ length place.old) }
+    ensures { EachRecorded form across along k mode cell.level cell.column cell.row at place.old place.new result }
 {
     let n = form.degree as usize;
     tables::to_part(&mut form.places, n, across, along);
     let verdict = local::judge(local::range_on(&form.places, n, mode));
     let colour = colour_of(verdict);
     if colour == 1 {
-        if level < k {
-            return list_parts(place, at, form, k, mode, level, p, q);
+        if cell.level < k {
+            return list_parts(place, at, form, k, mode, cell);
         }
     }
-    place[at] = cell_record(colour, level, p, q);
+    place[at] = cell_record(colour, cell.level, cell.column, cell.row);
     let seen = one_cell(colour, bend_of(verdict));
     let length = at + 1;
     Records { length, seen }
@@ -46,33 +45,17 @@ fn list_parts(
     mut form: Form,
     k: u32,
     mode: u32,
-    level: u32,
-    p: u32,
-    q: u32,
+    cell: Cell,
 ) -> Records
-    requires { Owned form k level p q × (at + 4 ^ (k - level) ≤ length place.old) × (level < k) }
-    ensures { EachListed form k mode level p q at place.old place.new result }
+    requires { Owned form k cell.level cell.column cell.row × (at + 4 ^ (k - cell.level) ≤ length place.old) × (cell.level < k) }
+    ensures { EachListed form k mode cell.level cell.column cell.row at place.old place.new result }
 {
     let n = form.degree as usize;
     tables::halve(&mut form.places, n);
-    let next = level + 1;
-    let left = 2 * p;
-    let low = 2 * q;
-    let a = list_cell(place, at, form, -1, -1, k, mode, next, left, low);
-    let b = list_cell(place, a.length, form, 1, -1, k, mode, next, left + 1, low);
-    let c = list_cell(place, b.length, form, -1, 1, k, mode, next, left, low + 1);
-    let d = list_cell(
-        place,
-        c.length,
-        form,
-        1,
-        1,
-        k,
-        mode,
-        next,
-        left + 1,
-        low + 1,
-    );
+    let a = list_cell(place, at, form, -1, -1, k, mode, cell.part(0, 0));
+    let b = list_cell(place, a.length, form, 1, -1, k, mode, cell.part(1, 0));
+    let c = list_cell(place, b.length, form, -1, 1, k, mode, cell.part(0, 1));
+    let d = list_cell(place, c.length, form, 1, 1, k, mode, cell.part(1, 1));
     let seen = cut_cell(a.seen, b.seen, c.seen, d.seen);
     Records {
         length: d.length,
