@@ -1,4 +1,4 @@
-// A sheet as the calls are given it, and the conditions that they try before their own: the rows 1 to 4, the mode, and the weight.
+// A sheet, and the conditions that calls try before their own: the rows 1 to 4, the mode, and the weight.
 ghost use Rattle.std.specs.Prelude.{◌≡◌, ◌^◌, ◌≤◌, min};
 ghost use Rattle.page.specs.Sheet.{InRange};
 ghost use Rattle.page.specs.Sheet.{count as counts};
@@ -10,7 +10,7 @@ ghost use Rattle.cells.specs.Sheet.{the_sheet};
 
 use page::Refusal;
 
-// The numbers of a sheet, which travel together: what they are asked to be, its methods say.
+// A sheet as a call is given it. Nothing is asked of its numbers: whether they are in their ranges, `check_ranges` finds.
 #[derive(Clone, Copy)]
 pub struct Sheet<'a> {
     pub d: u32,
