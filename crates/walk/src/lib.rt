@@ -47,7 +47,8 @@ pub fn raster(
         s,
         k,
     };
-    refusals::check_walk(sheet, mode, place.len())?;
+    let bytes = place.len();
+    refusals::check_walk(sheet, mode, bytes)?;
     let form = sheet.cell_form(WHOLE);
     let seen = examine::examine(place, form, 0, 0, k, mode, WHOLE);
     Ok(seen)
@@ -74,7 +75,8 @@ pub fn listing(
         s,
         k,
     };
-    refusals::check_walk(sheet, mode, place.len())?;
+    let entries = place.len();
+    refusals::check_walk(sheet, mode, entries)?;
     let form = sheet.cell_form(WHOLE);
     let records = list::list_cell(place, 0, form, 0, 0, k, mode, WHOLE);
     Ok(records)
