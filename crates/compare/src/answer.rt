@@ -2,74 +2,49 @@
 // stands the refusal's number; after a 0 stand the values: weight and spare places; or F; or the verdict (1 above, 2 below, 3 open),
 // the lower bound, the upper bound and the bend; or visited, coloured and the largest bend; or the listing's length, and these three. F and
 // the bounds are signed codes. Words not used are 0.
+use probe::{Refusal, Verdict};
 use std::io;
 use std::io::Write;
 use words::{code, put};
 
-fn refused(number: u32) -> [u64; 5] {
-    [1, number as u64, 0, 0, 0]
+// Why a case has no values.
+#[derive(Clone, Copy)]
+pub enum NoValues {
+    Refused(Refusal),
+    NoSuchCall,
 }
 
-pub fn of_check(checked: probe::Checked) -> [u64; 5] {
-    match checked {
-        probe::Checked::Accepted { weight, spare } => [0, weight, spare as u64, 0, 0],
-        probe::Checked::Refused(number) => refused(number),
+impl From<Refusal> for NoValues {
+    fn from(refusal: Refusal) -> NoValues {
+        NoValues::Refused(refusal)
     }
 }
 
-pub fn of_value(valued: probe::Valued) -> [u64; 5] {
-    match valued {
-        probe::Valued::At(f) => [0, code(f), 0, 0, 0],
-        probe::Valued::Refused(number) => refused(number),
-    }
-}
+pub type Answer = Result<[u64; 4], NoValues>;
 
-fn cell(verdict: u64, lower: i64, upper: i64, bend: u64) -> [u64; 5] {
-    [0, verdict, code(lower), code(upper), bend]
-}
-
-fn of_cell(verdict: verdicts::Verdict) -> [u64; 5] {
+pub fn of_verdict(verdict: Verdict) -> [u64; 4] {
     match verdict {
-        verdicts::Verdict::Above { lower, upper, bend } => cell(1, lower, upper, bend),
-        verdicts::Verdict::Below { lower, upper, bend } => cell(2, lower, upper, bend),
-        verdicts::Verdict::Open { lower, upper, bend } => cell(3, lower, upper, bend),
+        Verdict::Above { lower, upper, bend } => [1, code(lower), code(upper), bend],
+        Verdict::Below { lower, upper, bend } => [2, code(lower), code(upper), bend],
+        Verdict::Open { lower, upper, bend } => [3, code(lower), code(upper), bend],
     }
 }
 
-pub fn of_bounds(bounded: probe::Bounded) -> [u64; 5] {
-    match bounded {
-        probe::Bounded::Cell(verdict) => of_cell(verdict),
-        probe::Bounded::Refused(number) => refused(number),
-    }
-}
-
-pub fn of_raster(tallied: walk::Tallied) -> [u64; 5] {
-    match tallied {
-        walk::Tallied::Tally {
-            visited,
-            coloured,
-            bend,
-        } => [0, visited as u64, coloured as u64, bend, 0],
-        walk::Tallied::Refused(number) => refused(number),
-    }
-}
-
-pub fn of_listing(listed: walk::Listed) -> [u64; 5] {
-    match listed {
-        walk::Listed::Records {
-            length,
-            visited,
-            coloured,
-            bend,
-        } => [0, length as u64, visited as u64, coloured as u64, bend],
-        walk::Listed::Refused(number) => refused(number),
+fn words_of(answer: Answer) -> [u64; 5] {
+    match answer {
+        Ok(values) => {
+            let [a, b, c, d] = values;
+            [0, a, b, c, d]
+        }
+        Err(NoValues::Refused(refusal)) => [1, u64::from(refusal.number()), 0, 0, 0],
+        Err(NoValues::NoSuchCall) => [2, 0, 0, 0, 0],
     }
 }
 
 // Writes the answer, eight bytes for each word, the lowest first.
-pub fn write<W: Write>(to: &mut W, words: [u64; 5]) -> io::Result<()> {
+pub fn write<W: Write>(to: &mut W, answer: Answer) -> io::Result<()> {
     let mut out = [0; 40];
-    for (i, word) in words.into_iter().enumerate() {
+    for (i, word) in words_of(answer).into_iter().enumerate() {
         put(&mut out, 8 * i, word);
     }
     to.write_all(&out)

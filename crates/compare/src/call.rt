@@ -1,13 +1,16 @@
 // A case handed to the call that it names.
-use crate::answer::{of_bounds, of_check, of_listing, of_raster, of_value};
+use crate::answer::{Answer, of_verdict};
 use crate::case::Case;
+use walk::Records;
+use words::code;
 
-pub fn check(case: &Case) -> [u64; 5] {
-    of_check(probe::check(case.d, case.coefficients(), case.x, case.y, case.s, case.k))
+pub fn check(case: &Case) -> Answer {
+    let checked = probe::check(case.d, case.coefficients(), case.x, case.y, case.s, case.k)?;
+    Ok([checked.weight, u64::from(checked.spare), 0, 0])
 }
 
-pub fn value(case: &Case) -> [u64; 5] {
-    of_value(probe::value(
+pub fn value(case: &Case) -> Answer {
+    let f = probe::value(
         case.d,
         case.coefficients(),
         case.x,
@@ -16,11 +19,12 @@ pub fn value(case: &Case) -> [u64; 5] {
         case.k,
         case.u,
         case.v,
-    ))
+    )?;
+    Ok([code(f), 0, 0, 0])
 }
 
-pub fn bounds(case: &Case) -> [u64; 5] {
-    of_bounds(probe::bounds(
+pub fn bounds(case: &Case) -> Answer {
+    let verdict = probe::bounds(
         case.d,
         case.coefficients(),
         case.x,
@@ -31,11 +35,12 @@ pub fn bounds(case: &Case) -> [u64; 5] {
         case.j,
         case.p,
         case.q,
-    ))
+    )?;
+    Ok(of_verdict(verdict))
 }
 
-pub fn raster(case: &Case, place: &mut [u8]) -> [u64; 5] {
-    of_raster(walk::raster(
+pub fn raster(case: &Case, place: &mut [u8]) -> Answer {
+    let seen = walk::raster(
         case.d,
         case.coefficients(),
         case.x,
@@ -44,11 +49,17 @@ pub fn raster(case: &Case, place: &mut [u8]) -> [u64; 5] {
         case.k,
         case.mode,
         place,
-    ))
+    )?;
+    Ok([
+        u64::from(seen.visited),
+        u64::from(seen.coloured),
+        seen.bend,
+        0,
+    ])
 }
 
-pub fn listing(case: &Case, place: &mut [u32]) -> [u64; 5] {
-    of_listing(walk::listing(
+pub fn listing(case: &Case, place: &mut [u32]) -> Answer {
+    let Records { length, seen } = walk::listing(
         case.d,
         case.coefficients(),
         case.x,
@@ -57,5 +68,11 @@ pub fn listing(case: &Case, place: &mut [u32]) -> [u64; 5] {
         case.k,
         case.mode,
         place,
-    ))
+    )?;
+    Ok([
+        length as u64,
+        u64::from(seen.visited),
+        u64::from(seen.coloured),
+        seen.bend,
+    ])
 }

@@ -58,15 +58,8 @@ pub struct Case {
     ghost held: { entries ≤ 16416 },
 }
 
-impl Case {
-    // The next case of the input.
-    pub fn read<R: Read>(from: &mut R) -> io::Result<Case> {
-        let mut bytes = [0u8; 320];
-        from.read_exact(&mut bytes)?;
-        Ok(Case::of(words_of(&bytes)))
-    }
-
-    fn of(words: [u32; 80]) -> Case {
+impl From<[u32; 80]> for Case {
+    fn from(words: [u32; 80]) -> Case {
         Case {
             call: Call::from(words[0]),
             d: words[1],
@@ -84,6 +77,15 @@ impl Case {
             entries: (words[15] as usize).min(ENTRIES),
             all: array::from_fn(|i| signed(words[16 + i])),
         }
+    }
+}
+
+impl Case {
+    // The next case of the input.
+    pub fn read<R: Read>(from: &mut R) -> io::Result<Case> {
+        let mut bytes = [0u8; 320];
+        from.read_exact(&mut bytes)?;
+        Ok(Case::from(words_of(&bytes)))
     }
 
     // The coefficients that are handed over, at most the 64 that a case holds.

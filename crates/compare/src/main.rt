@@ -11,6 +11,7 @@ mod case;
 mod coding;
 mod place;
 
+use answer::NoValues;
 use case::{Call, Case};
 use std::io;
 use std::io::{Read, Write};
@@ -24,7 +25,7 @@ fn one_case<R: Read, W: Write>(from: &mut R, to: &mut W) -> io::Result<()> {
         Call::Bounds => answer::write(to, call::bounds(&case)),
         Call::Raster => place::raster(from, to, &case),
         Call::Listing => place::listing(from, to, &case),
-        Call::Unknown => answer::write(to, [2, 0, 0, 0, 0]),
+        Call::Unknown => answer::write(to, Err(NoValues::NoSuchCall)),
     }
 }
 

@@ -1,8 +1,9 @@
 // The calls that are lent a place. The entries that it holds before the call follow the case in the input, and those that it holds afterwards
 // follow the answer: all of them, one byte for each entry of a raster's, four for each of a listing's, the lowest first. So every entry can be
 // chosen, and every entry is seen, whether it was written or left.
-ghost use Rattle.std.specs.Prelude.{◌≡◌, ◌+◌, ◌*◌, ◌≤◌, length};
+ghost use Rattle.std.specs.Prelude.{◌+◌, ◌*◌, ◌≤◌, length};
 
+use crate::answer::Answer;
 use crate::case::{Case, ENTRIES};
 use crate::{answer, call};
 use std::io;
@@ -31,9 +32,9 @@ fn put_entries(out: &mut [u8], place: &[u32]) {
     }
 }
 
-// The five words, then the place.
-fn write<W: Write>(to: &mut W, words: [u64; 5], place: &[u8]) -> io::Result<()> {
-    answer::write(to, words)?;
+// The answer, then the place.
+fn write<W: Write>(to: &mut W, answer: Answer, place: &[u8]) -> io::Result<()> {
+    answer::write(to, answer)?;
     to.write_all(place)
 }
 
@@ -42,18 +43,18 @@ pub fn raster<R: Read, W: Write>(from: &mut R, to: &mut W, case: &Case) -> io::R
     let mut space = [0; ENTRIES];
     let place = &mut space[..case.entries];
     from.read_exact(place)?;
-    let words = call::raster(case, place);
-    write(to, words, place)
+    let answer = call::raster(case, place);
+    write(to, answer, place)
 }
 
 // Lends a listing the entries that the bytes hold, and leaves in the bytes what becomes of them.
-fn relisted(case: &Case, place: &mut [u32], held: &mut [u8]) -> [u64; 5]
+fn relisted(case: &Case, place: &mut [u32], held: &mut [u8]) -> Answer
     requires { 4 * length place.old ≤ length held.old }
 {
     take_entries(place, held);
-    let words = call::listing(case, place);
+    let answer = call::listing(case, place);
     put_entries(held, place);
-    words
+    answer
 }
 
 pub fn listing<R: Read, W: Write>(from: &mut R, to: &mut W, case: &Case) -> io::Result<()> {
@@ -61,6 +62,6 @@ pub fn listing<R: Read, W: Write>(from: &mut R, to: &mut W, case: &Case) -> io::
     let held = &mut bytes[..4 * case.entries];
     from.read_exact(held)?;
     let mut space = [0; ENTRIES];
-    let words = relisted(case, &mut space[..case.entries], held);
-    write(to, words, held)
+    let answer = relisted(case, &mut space[..case.entries], held);
+    write(to, answer, held)
 }
