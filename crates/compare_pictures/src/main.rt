@@ -7,8 +7,7 @@
 // `reply::picture_place` makes: all of it is written, and nothing else. The program ends where the input does.
 #![tactic(auto)]
 
-use printing::Printed;
-use scanning::Scanned;
+use page::Refusal;
 use std::io;
 use std::io::{Read, Write};
 use words::put;
@@ -47,33 +46,19 @@ impl From<usize> for Call {
     }
 }
 
-fn written(k: u32, raster: &[u8], place: &mut [u8]) -> Result<usize, u32> {
-    match printing::write_pbm(k, raster, place) {
-        Printed::Bytes(value) => Ok(value),
-        Printed::Refused(number) => Err(number),
-    }
-}
-
-fn scanned(text: &[u8], place: &mut [u8]) -> Result<usize, u32> {
-    match scanning::read_pbm(text, place) {
-        Scanned::Depth(k) => Ok(k as usize),
-        Scanned::Refused(number) => Err(number),
-    }
-}
-
-fn answer_of(call: Call, k: u32, input: &[u8], place: &mut [u8]) -> Result<usize, u32> {
+fn answer_of(call: Call, k: u32, input: &[u8], place: &mut [u8]) -> Result<usize, Refusal> {
     match call {
-        Call::Write => written(k, input, place),
-        Call::Read => scanned(input, place),
+        Call::Write => printing::write_pbm(k, input, place),
+        Call::Read => scanning::read_pbm(input, place).map(|k| k as usize),
         Call::Depict => Ok(reply::depict(input, place)),
     }
 }
 
 // Writes an answer, after the number of a refusal, or 0; and the place.
-fn shown<W: Write>(to: &mut W, answer: Result<usize, u32>, place: &[u8]) -> io::Result<()> {
+fn shown<W: Write>(to: &mut W, answer: Result<usize, Refusal>, place: &[u8]) -> io::Result<()> {
     let (number, value) = match answer {
         Ok(value) => (0, value),
-        Err(number) => (number, 0),
+        Err(refusal) => (refusal.number(), 0),
     };
     let mut out = [0; 16];
     put(&mut out, 0, u64::from(number));
@@ -83,6 +68,8 @@ fn shown<W: Write>(to: &mut W, answer: Result<usize, u32>, place: &[u8]) -> io::
 }
 
 // Reads one item and writes what comes of it; an error where no whole item is left, or the answer can't be written.
+// compare_texts has the like: one function over the calls of both would be as long as what it spares, and here the text and the place are cut to
+// their lengths, which must-fail/place_beyond_its_space keeps within their spaces.
 fn one_item<R: Read, W: Write>(
     from: &mut R,
     to: &mut W,

@@ -50,6 +50,8 @@ fn answered<W: Write>(
 }
 
 // Reads one item and writes what comes of it; an error where no whole item is left, or the answer can't be written.
+// compare_pictures has the like: one function over the calls of both would be as long as what it spares, and here the text and the place are cut to
+// their lengths, which must-fail/place_beyond_its_space keeps within their spaces.
 fn one_item<R: Read, W: Write>(
     from: &mut R,
     to: &mut W,
