@@ -23,11 +23,9 @@ use Rattle.page.specs.SheetLine.{lines, fields, all_digits, amount, line_numbers
 use Rattle.page.specs.SheetText.{term_numbers, terms_from, text_of, in_order, refused}
 use Rattle.page.specs.ListingText.{digits_within, decimal, refused_line}
 use Rattle.page.specs.CheckedSheets.{P4, P9, far_along_y}
-use Rattle.probe.specs.declared.Valued.TheVariants as Valued
-use Rattle.probe.specs.declared.Bounded.TheVariants as Bounded
+use Rattle.std.specs.Prelude.{Ok}
+use Rattle.page.specs.Numbers.{by_number}
 use Rattle.probe.specs.Answers.{checked}
-use Rattle.walk.specs.declared.Tallied.TheVariants as Tallied
-use Rattle.walk.specs.declared.Listed.TheVariants as Listed
 use Rattle.earlier.specs.Weight.{old_weight, old_refusal}
 use Rattle.earlier.specs.WeightAnswers.{old_checked, old_valued, old_bounded, old_tallied, old_rastered, old_listed, old_recorded, old_outcome, old_text, old_written_length, old_written_place}
 use Rattle.earlier.specs.WeightStays.{Lighter, RefusedForNothing}
@@ -55,7 +53,7 @@ unfolding sumℕ run span ◌⋯◌ row_start digits weight old_weight table fir
 lighter = (omega arith, omega arith)
 
 -- what the other calls answered
-answers : (old_valued P9 (pos 2) (pos 0) ≡ Valued.At (pos 4)) × (old_bounded P4 0 1 1 0 ≡ Bounded.Cell (Open (pos 0) (pos 4) 0)) × (old_tallied P4 0 5 ≡ Tallied.Tally 5 4 0) × (old_listed P4 0 5 ≡ Listed.Records 4 5 4 0)
+answers : (old_valued P9 (pos 2) (pos 0) ≡ Ok (pos 4)) × (old_bounded P4 0 1 1 0 ≡ Ok (Open (pos 0) (pos 4) 0)) × (old_tallied P4 0 5 ≡ Ok (record { visited = 5; coloured = 4; bend = 0 })) × (old_listed P4 0 5 ≡ Ok (record { length = 4; seen = record { visited = 5; coloured = 4; bend = 0 } }))
 unfolding pow one sum sumℕ largest run span ◌⋯◌ choose minℤ maxℤ row_start judged F G lower upper bend old_weight colour visited coloured largest_bend walking_order those records table first
 answers = (refl, refl, refl, refl)
 
@@ -73,5 +71,5 @@ unfolding sumℕ run span ◌⋯◌ row_start old_weight table first lines field
 texts = (refl, refl, refl, refl)
 
 pub refused_for_nothing : RefusedForNothing
-unfolding sumℕ run span ◌⋯◌ row_start digits weight old_weight table first checked
+unfolding sumℕ run span ◌⋯◌ row_start digits weight old_weight table first checked by_number
 refused_for_nothing = (refl, refl)

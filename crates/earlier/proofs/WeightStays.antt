@@ -21,8 +21,8 @@ use Rattle.page.specs.ListingText.{text_after, written_text}
 use Rattle.page.specs.ReadFacts.{number_of}
 use Rattle.page.proofs.Page.{polynomial}
 use Rattle.page.proofs.Weights.{limits, weight_is}
+use Rattle.page.specs.Numbers.{answer}
 use Rattle.page.proofs.Rows.{unless_number}
-use Rattle.probe.specs.declared.Checked.TheVariants as Checked
 use Rattle.probe.specs.Answers.{checked, valued, bounded}
 use Rattle.walk.specs.Answers.{tallied, rastered, listed, recorded}
 use Rattle.reading.specs.Answers.{reading_of, reading}
@@ -79,7 +79,7 @@ six_was_six c e = by_test (eqb (old_refusal c) 6) refl
 unless_stays : (c : Input) → (old_refusal c ≡ 6 → ⊥) → {X : Type 0} (refuses : ℕ → X) (values : X) → unless (refusal c) refuses values ≡ unless (old_refusal c) refuses values
 unless_stays c n refuses values = ap (λ m. unless m refuses values) (number_stays c n)
 
-lighter : (S : Sheet) (m : ℕ) → Lighter (unless m Checked.Refused (Checked.Accepted (weight S) (spare S))) (unless m Checked.Refused (Checked.Accepted (old_weight S) (old_spare S)))
+lighter : (S : Sheet) (m : ℕ) → Lighter (answer m (record { weight = weight S; spare = spare S })) (answer m (record { weight = old_weight S; spare = old_spare S }))
 lighter S zero = (no_heavier S, let h = digits_mono (no_heavier S) in omega arith)
 lighter S (suc m) = refl
 

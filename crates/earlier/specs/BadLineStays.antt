@@ -1,9 +1,10 @@
 -- Request #105, what is wrong with this line: a line without a fault is just what was a good line before, so the accepted texts and their sheets are the same as before this request. Statements about every line, every text, and every answer that satisfies the promise of `read`. That they hold is proofs/BadLineStays.
-use Rattle.std.specs.Prelude.{◌≡◌, Bool, cond, List, ℕ, ◌≤◌, leb}
+use Rattle.std.specs.Prelude.{◌≡◌, Bool, cond, List, ℕ, ◌≤◌, leb, Result}
 use Rattle.page.specs.SheetLine.{Line, Numbers, faulty, good, line_numbers}
 use Rattle.page.specs.SheetText.{Term, term_of, Said, Text, bad_line, well_formed, term_numbers, text_of, Outcome, refused, accepted, outcome}
-use Rattle.reading.specs.declared.Reading.{Reading}
-use Rattle.reading.specs.Answers.{reading_of}
+use Rattle.reading.specs.declared.Sheet.{Sheet}
+use Rattle.reading.specs.declared.Refused.{Refused}
+use Rattle.reading.specs.Answers.{reading_of, Stated, states}
 use Rattle.reading.specs.Promises.{ReadPromise}
 use Rattle.earlier.specs.BadLine.{TenNumbers, ten_bad, ten_good, ten_line_numbers, is_admitted, ten_term_numbers, TenText, ten_bad_line, ten_well_formed, ten_text_of, TenOutcome, ten_refused, ten_accepted, ten_outcome}
 
@@ -41,17 +42,17 @@ SameOutcome = (text : List ℕ) → ten_outcome text ≡ as_ten (outcome text)
 
 -- ---- so `read` answers the same sheet for each text that was accepted
 abbrev pub SheetSame : Type 0
-SheetSame = (text : List ℕ) (r : Reading) (w : Said) → ReadPromise text r → ten_outcome text ≡ ten_accepted w → r ≡ reading_of (accepted w)
+SheetSame = (text : List ℕ) (r : Result Sheet Refused) (w : Said) → ReadPromise text r → ten_outcome text ≡ ten_accepted w → r ≡ reading_of (accepted w)
 
 -- and accepts no other: where it answers no refusal, the text was accepted, and its sheet is the answer
 abbrev pub AcceptedBefore : Type 0
-AcceptedBefore = (text : List ℕ) (r : Reading) → ReadPromise text r → r.refusal ≡ 0 → (w : Said) × (ten_outcome text ≡ ten_accepted w) × (r ≡ reading_of (accepted w))
+AcceptedBefore = (text : List ℕ) (r : Result Sheet Refused) → ReadPromise text r → (states r).refusal ≡ 0 → (w : Said) × (ten_outcome text ≡ ten_accepted w) × (r ≡ reading_of (accepted w))
 
 -- and where it answered a refusal, it answers one with the same line, by the same number or by one of 14 to 20 for 10
-pub record RefusedSame (n line : ℕ) (r : Reading) : Type 0 where
+pub record RefusedSame (n line : ℕ) (r : Stated) : Type 0 where
   pub same_line : r.line ≡ line
   pub same_number : (n ≡ 10 → ⊥) → r.refusal ≡ n
   pub split : n ≡ 10 → (14 ≤ r.refusal) × (r.refusal ≤ 20)
 
 abbrev pub RefusalSame : Type 0
-RefusalSame = (text : List ℕ) (r : Reading) (n line : ℕ) → ReadPromise text r → ten_outcome text ≡ ten_refused n line → RefusedSame n line r
+RefusalSame = (text : List ℕ) (r : Result Sheet Refused) (n line : ℕ) → ReadPromise text r → ten_outcome text ≡ ten_refused n line → RefusedSame n line (states r)

@@ -53,6 +53,6 @@ unfolding table by_number
 table_named c = first_names (table c) (refl, (refl, (refl, (refl, (refl, (refl, (refl, (refl, (refl, tt)))))))))
 
 -- ---- so the number of the refusal that an answer's number names is that number
-pub unless_number : {X : Type 0} (refused : ℕ → X) (values : X) (n : ℕ) → ((n ≡ 0 → ⊥) → Names n) → unless n (λ m. refused (number_of (by_number m))) values ≡ unless n refused values
-unless_number refused values zero h = refl
-unless_number refused values (suc n) h = ap refused (h (λ e. absurd (omega arith)))
+pub unless_named : {X : Type 0} (refused : ℕ → X) (values : X) (n : ℕ) → ((n ≡ 0 → ⊥) → Names n) → unless n (λ m. refused (number_of (by_number m))) values ≡ unless n refused values
+unless_named refused values zero h = refl
+unless_named refused values (suc n) h = ap refused (h (λ e. absurd (omega arith)))

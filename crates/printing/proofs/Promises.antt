@@ -9,7 +9,7 @@ use Rattle.std.specs.Result.{IsErrAnd}
 use Rattle.page.specs.declared.Refusal.{Refusal}
 use Rattle.page.specs.Numbers.{by_number, passed}
 use Rattle.page.proofs.Rows.{unless_ap, unless_refused, unless_none}
-use Rattle.page.proofs.Numbers.{Names, first_names, unless_number}
+use Rattle.page.proofs.Numbers.{Names, first_names, unless_named}
 use Rattle.pbm.specs.Writing.{picture_text}
 use Rattle.pbm.specs.Refusals.{write_table, write_refusal}
 use Rattle.writing.specs.Steps.{Put}
@@ -53,7 +53,7 @@ module _ (k : ℕ) (raster old : List ℕ) where
   unfolding printed counted
   kept e p =
       let n : ℕ = write_refusal k (length raster) (length old) in
-      (e, ap states_printing e ∙ unless_ap states_printing n _ _ ∙ unless_number refused_by _ n (named k (length raster) (length old)), p)
+      (e, ap states_printing e ∙ unless_ap states_printing n _ _ ∙ unless_named refused_by _ n (named k (length raster) (length old)), p)
 
   -- where a row holds: its refusal, and the place as it was
   pub print_refused : {r : Result ℕ Refusal} {e : Refusal} → IsErrAnd r (λ x. x ≡ e) → passed (write_refusal k (length raster) (length old)) ≡ Err e → PrintPromise k raster old r old

@@ -14,18 +14,18 @@ use Rattle.page.specs.Sheet.{Sheet, mode_of}
 use Rattle.page.specs.Bounds.{lower, upper, bend}
 use Rattle.page.specs.Refusals.{refusal, unless, to_check, at_point, in_cell}
 use Rattle.page.proofs.Rows.{unless_ap}
-use Rattle.page.proofs.Numbers.{table_named, unless_number}
+use Rattle.page.proofs.Numbers.{table_named, unless_named}
 use Rattle.probe.specs.Answers.{checked, states_weight, weighed, valued, states_value, evaluated, bounded, states_bounds, measured}
 use Rattle.probe.specs.Promises.{CheckPromise, ValuePromise, BoundsPromise, OneCheck, OneValue, OneBounds}
 
 -- ---- what each call's answer states
 pub check_states : (S : Sheet) → states_weight (checked S) ≡ weighed S
 unfolding checked weighed
-check_states S = unless_ap states_weight (refusal (to_check S)) _ _ ∙ unless_number _ _ (refusal (to_check S)) (table_named (to_check S))
+check_states S = unless_ap states_weight (refusal (to_check S)) _ _ ∙ unless_named _ _ (refusal (to_check S)) (table_named (to_check S))
 
 pub value_states : (S : Sheet) (u v : ℤ) → states_value (valued S u v) ≡ evaluated S u v
 unfolding valued evaluated
-value_states S u v = unless_ap states_value (refusal (at_point S u v)) _ _ ∙ unless_number _ _ (refusal (at_point S u v)) (table_named (at_point S u v))
+value_states S u v = unless_ap states_value (refusal (at_point S u v)) _ _ ∙ unless_named _ _ (refusal (at_point S u v)) (table_named (at_point S u v))
 
 -- a verdict states both bounds and the bend, whichever it is
 verdict_states : (l u : ℤ) (b : ℕ) → states_bounds (Ok (judged l u b)) ≡ record { number = 0; lower = l; upper = u; bend = b }
@@ -40,7 +40,7 @@ verdict_states l u b = go (lt_z (pos 0) l) (lt_z u (pos 0))
 pub bounds_states : (S : Sheet) (mode j p q : ℕ) → states_bounds (bounded S mode j p q) ≡ measured S mode j p q
 unfolding bounded measured
 bounds_states S mode j p q =
-    unless_ap states_bounds (refusal (in_cell S mode j p q)) _ _ ∙ unless_number _ _ (refusal (in_cell S mode j p q)) (table_named (in_cell S mode j p q))
+    unless_ap states_bounds (refusal (in_cell S mode j p q)) _ _ ∙ unless_named _ _ (refusal (in_cell S mode j p q)) (table_named (in_cell S mode j p q))
     ∙ ap (λ x. unless (refusal (in_cell S mode j p q)) (λ n. record { number = n; lower = pos 0; upper = pos 0; bend = 0 }) x) (verdict_states (lower S (mode_of mode) j p q) (upper S (mode_of mode) j p q) (bend S j p q))
 
 -- ---- each promise is kept by the definition's answer

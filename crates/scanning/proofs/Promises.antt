@@ -11,7 +11,7 @@ use Rattle.page.specs.Refusals.{first}
 use Rattle.page.specs.declared.Refusal.{Refusal}
 use Rattle.page.specs.Numbers.{by_number}
 use Rattle.page.proofs.Rows.{unless_ap, unless_refused, unless_none}
-use Rattle.page.proofs.Numbers.{Names, first_names, unless_number}
+use Rattle.page.proofs.Numbers.{Names, first_names, unless_named}
 use Rattle.pbm.specs.Reading.{Picture}
 use Rattle.pbm.specs.Refusals.{Found, not_plain, plain, depths, picture_mask, read_table, read_refusal, depth_in, mask_in}
 use Rattle.pbm.specs.Steps.{found}
@@ -56,7 +56,7 @@ refused_by n = record { number = n; depth = 0 }
 module _ (f : Found) (old : List ℕ) where
   kept : {r : Result ℕ Refusal} {now : List ℕ} → r ≡ scanned f (length old) → now ≡ scanned_place f old → ScanOf f old r now
   unfolding scanned sized
-  kept e p = (e, ap states_scan e ∙ unless_ap states_scan (read_refusal f (length old)) _ _ ∙ unless_number refused_by _ (read_refusal f (length old)) (named f (length old)), p)
+  kept e p = (e, ap states_scan e ∙ unless_ap states_scan (read_refusal f (length old)) _ _ ∙ unless_named refused_by _ (read_refusal f (length old)) (named f (length old)), p)
 
   -- where a row holds: the refusal of its number, and the place as it was
   pub refused : {n : ℕ} → read_refusal f (length old) ≡ n → (n ≡ 0 → ⊥) → ScanOf f old (Err (by_number n)) old

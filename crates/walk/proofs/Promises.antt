@@ -9,7 +9,7 @@ use Rattle.page.specs.Sheet.{Sheet}
 use Rattle.page.specs.declared.Refusal.{Refusal}
 use Rattle.page.specs.Numbers.{passed}
 use Rattle.page.specs.Refusals.{refusal, to_walk}
-use Rattle.page.proofs.Numbers.{table_named, unless_number}
+use Rattle.page.proofs.Numbers.{table_named, unless_named}
 use Rattle.page.proofs.Rows.{unless_ap, unless_refused, unless_none}
 use Rattle.cells.proofs.Refused.{refused_same, refused_some}
 use Rattle.marks.specs.declared.Seen.{Seen}
@@ -21,11 +21,11 @@ use Rattle.walk.specs.Promises.{RasterPromise, ListingPromise, OneRaster, OneLis
 module _ (S : Sheet) (mode : ℕ) (old : List ℕ) where
   raster_kept : {r : Result Seen Refusal} {now : List ℕ} → r ≡ tallied S mode (length old) → now ≡ rastered S mode old → RasterPromise S mode old r now
   unfolding tallied reckoned
-  raster_kept e p = let c = to_walk S mode (length old) in (e, ap states_tally e ∙ unless_ap states_tally (refusal c) _ _ ∙ unless_number _ _ (refusal c) (table_named c), p)
+  raster_kept e p = let c = to_walk S mode (length old) in (e, ap states_tally e ∙ unless_ap states_tally (refusal c) _ _ ∙ unless_named _ _ (refusal c) (table_named c), p)
 
   listing_kept : {r : Result Records Refusal} {now : List ℕ} → r ≡ listed S mode (length old) → now ≡ recorded S mode old → ListingPromise S mode old r now
   unfolding listed enumerated
-  listing_kept e p = let c = to_walk S mode (length old) in (e, ap states_listing e ∙ unless_ap states_listing (refusal c) _ _ ∙ unless_number _ _ (refusal c) (table_named c), p)
+  listing_kept e p = let c = to_walk S mode (length old) in (e, ap states_listing e ∙ unless_ap states_listing (refusal c) _ _ ∙ unless_named _ _ (refusal c) (table_named c), p)
 
   -- where a row holds: its refusal, and the place as it was
   module _ {e : Refusal} (h : passed (refusal (to_walk S mode (length old))) ≡ Err e) where
