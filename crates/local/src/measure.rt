@@ -46,6 +46,7 @@ fn flat_range(places: &[i64; 45], mode: u32) -> Range
 }
 
 // The same by the degree: each arm hands on a literal, and the compiler makes code of its own for each degree, with no loop left.
+// Not by a const parameter: with `range_by::<4>` the walk of a sheet of degree 4 takes 4.8 per cent more instructions, with 6 5.1.
 pub fn range_on(places: &[i64; 45], d: usize, mode: u32) -> Range
     requires { Light d places.now }
     ensures { result ≡ range_of d (mode_of mode) (held places.now d) }
