@@ -1,6 +1,6 @@
 -- Powers of two, and the lesser of one and a ceiling: what the machine's shift gives.
 use mathlib.Core.Path.{◌≡◌, ◌∙◌, ap}
-use Prim.Native.Nat.{ℕ, ◌*◌, ◌^◌, ◌%◌, ◌≤◌, min}
+use Prim.Native.Nat.{ℕ, ◌*◌, ◌^◌, ◌/◌, ◌%◌, ◌≤◌, ◌<◌, min}
 use native.Mathlib.Nat as Nat
 use native.Mathlib.Decide.{dec_le}
 use native.Mathlib.Omega.{arith}
@@ -10,6 +10,18 @@ use mir.Syntax.{w64}
 use mir.Val.{to_z}
 use mir.Facts.{to_z_pos}
 
+-- ---- a b is at most C where a is at most C / b, and above C elsewhere
+module _ (C a b : ℕ) (h : b ≡ 0 → ⊥) where
+  positive : 0 < b
+  positive = Nat.pos_of_ne-zero h
+
+  pub product_below : a ≤ C / b → a * b ≤ C
+  product_below = (Nat.le-div_iff_mul-le positive).0
+
+  pub product_above : C / b < a → C < a * b
+  product_above = (Nat.div-lt_iff_lt-mul positive).0
+
+-- ---- powers of two
 -- the machine's 1 << n is 2^n, since it fits
 pub one_shifted : (n : ℕ) → n ≤ 62 → 1 * 2 ^ n % 2 ^ 64 ≡ 2 ^ n
 one_shifted n h = let p : 2 ^ n ≤ 2 ^ 62 = pow_mono h in ap (λ x. x % 2 ^ 64) (Nat.one-mul (2 ^ n)) ∙ Nat.mod-eq_of_lt (omega arith)
