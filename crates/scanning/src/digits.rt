@@ -1,5 +1,5 @@
 // The digits: white space may stand among them, and what follows the last one, if anything does, begins with white space.
-ghost use Rattle.std.specs.Prelude.{◌≡◌, ◌||◌, cond, ◌*◌, ◌^◌, ◌≤◌, ◌<◌, min, length, drop};
+ghost use Rattle.std.specs.Prelude.{◌≡◌, ◌||◌, cond, ◌*◌, ◌^◌, ◌≤◌, min, length, drop};
 ghost use Rattle.pbm.specs.Reading.{is_white, is_bit, is_after};
 ghost use Rattle.scanning.specs.Steps.{DataTaken, DataComplete};
 

@@ -27,6 +27,13 @@ field_room at n m l h = omega arith
 pub field_end : (n e m : ℕ) {at r : ℕ} {old now : List ℕ} → length (decimal n) ≤ m → Put at (decimal n ++ (e ∷ [])) old now r → r ≤ at + m + 1
 field_end n e m l h = omega (arith, h.put.ends, length-append (decimal n) (e ∷ []))
 
+-- where a level ends, and a column or a row
+pub level_end : (r : ℕ) {at a : ℕ} {old now : List ℕ} → r < 2 ^ 32 → Put at (decimal (r / 65_536) ++ (9 ∷ [])) old now a → a ≤ at + 6
+level_end r h p = omega (arith, field_end _ _ _ (level_short r h) p)
+
+pub column_end : (n : ℕ) {at a : ℕ} {old now : List ℕ} → Put at (decimal (n % 128) ++ (9 ∷ [])) old now a → a ≤ at + 4
+column_end n p = omega (arith, field_end _ _ _ (column_short n) p)
+
 pub record_short : (r : ℕ) → r < 2 ^ 32 → length (record_text r) ≤ 16
 unfolding record_line
 record_short r h = simp length-append (omega (arith, level_short r h, column_short (r / 4), column_short (r / 512)))
