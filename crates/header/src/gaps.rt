@@ -39,7 +39,7 @@ fn goes_on(inside: bool, byte: u8) -> bool
     }
 }
 
-// Where the gap ends that begins at `at`; `at` itself where there is none.
+// Where the gap ends that begins at `at`; `at` itself where there is none, which no Option need say: GapPassed tells the two apart by the place.
 pub fn gap_end(text: &[u8], at: usize) -> usize
     requires { at ≤ length text.now }
     ensures { GapPassed text.now at result }
