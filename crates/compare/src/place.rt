@@ -16,7 +16,8 @@ fn entry_at(given: &[u8], at: usize) -> u32
     u32::from_le_bytes([given[at], given[at + 1], given[at + 2], given[at + 3]])
 }
 
-// The entries from their bytes.
+// The entries from their bytes, each by its place: `chunks_exact` would end early where the chunks are too long (must-fail/entries_five_bytes_apart),
+// and here the check sees that they are.
 fn take_entries(place: &mut [u32], given: &[u8])
     requires { 4 * length place.old ≤ length given.now }
 {
@@ -38,7 +39,8 @@ fn write<W: Write>(to: &mut W, answer: Answer, place: &[u8]) -> io::Result<()> {
     to.write_all(place)
 }
 
-// Lends a raster a place of the asked length.
+// Lends a raster a place of the asked length. `listing` does the like with four bytes for each entry: one function that lends either its bytes, over a
+// closure, would be longer than the lines that it spares, and would ask of the closure that it can take so many.
 pub fn raster<R: Read, W: Write>(from: &mut R, to: &mut W, case: &Case) -> io::Result<()> {
     let mut space = [0; ENTRIES];
     let place = &mut space[..case.entries];
