@@ -1,6 +1,6 @@
 // A case: 80 words of four bytes, the lowest byte first. Word 0 names the call, 0 check, 1 value, 2 bounds, 3 raster, 4 listing; the others
-// are what it takes, in the order of `Case`. X, Y, U, V and the coefficients are signed codes; U and V have two words each, the lower one first; word 15
-// is the number of entries of the place that is lent to raster and listing, which follow the case.
+// are what it takes, in the order of `Case`. X, Y, U, V and the coefficients are signed codes; U and V have two words each, the lower one first;
+// word 15 is the number of entries of the place that is lent to raster and listing, which follow the case.
 ghost use Rattle.std.specs.Prelude.{◌≡◌, ◌≤◌, length};
 
 use crate::coding::{long, long_signed, signed};

@@ -39,8 +39,8 @@ fn write<W: Write>(to: &mut W, answer: Answer, place: &[u8]) -> io::Result<()> {
     to.write_all(place)
 }
 
-// Lends a raster a place of the asked length. `listing` does the like with four bytes for each entry: one function that lends either its bytes, over a
-// closure, would be longer than the lines that it spares, and would ask of the closure that it can take so many.
+// Lends a raster a place of the asked length. `listing` does the like with four bytes for each entry: one function that lends either its bytes,
+// over a closure, would be longer than the lines that it spares, and would ask of the closure that it can take so many.
 pub fn raster<R: Read, W: Write>(from: &mut R, to: &mut W, case: &Case) -> io::Result<()> {
     let mut space = [0; ENTRIES];
     let place = &mut space[..case.entries];

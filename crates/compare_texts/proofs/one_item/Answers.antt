@@ -1,5 +1,5 @@
--- `compare_texts::one_item` lends no more of the place than its space has. A longer one is refused here, by numbers; without an answer the check would
--- only give up on it.
+-- `compare_texts::one_item` lends no more of the place than its space has. A longer one is refused here, by numbers; without an answer the check
+-- would only give up on it.
 use native.Mathlib.Omega.{arith}
 use Rattle.compare_texts.proofs.one_item.Goals as goal
 
