@@ -86,9 +86,7 @@ fn one_item<R: Read, W: Write>(
     let input = &mut text[..n];
     from.read_exact(input)?;
     let lent = &mut place[..entries];
-    if !items::hold(from, &head, BYTE, lent) {
-        return Err(io::ErrorKind::UnexpectedEof.into());
-    }
+    items::hold(from, &head, BYTE, lent)?;
     let call = Call::from(items::at(&head, CALL));
     let k = items::at(&head, DEPTH) as u32;
     shown(to, answer_of(call, k, input, lent), lent)

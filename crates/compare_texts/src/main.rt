@@ -68,9 +68,7 @@ fn one_item<R: Read, W: Write>(
     let input = &mut text[..n];
     from.read_exact(input)?;
     let lent = &mut place[..entries];
-    if !items::hold(from, &head, BYTE, lent) {
-        return Err(io::ErrorKind::UnexpectedEof.into());
-    }
+    items::hold(from, &head, BYTE, lent)?;
     answered(to, &head, input, lent)
 }
 

@@ -4,9 +4,9 @@
 // An inner crate: what its functions require, every caller proves.
 #![tactic(auto)]
 
-ghost use Rattle.std.specs.Prelude.{◌≤◌, ◌<◌, IsTrue};
-ghost use Rattle.std.specs.Io.KnownBytes.{Consumes};
+ghost use Rattle.std.specs.Prelude.{◌≤◌, ◌<◌};
 
+use std::io;
 use std::io::Read;
 use words::number;
 
@@ -27,19 +27,12 @@ pub fn within(head: &[u8; 28], i: usize, most: usize) -> usize
     at(head, i).min(most)
 }
 
-// Reads as many bytes as there are places for them, the next ones; false where fewer are left.
-pub fn read<R: Read>(from: &mut R, given: &mut [u8]) -> bool
-    ensures { IsTrue result → Consumes (R.remaining from.old) (R.remaining from.new) given.new }
-{
-    from.read_exact(given).is_ok()
-}
-
-// Makes the place hold what the three numbers from the first on say; false where the input ends within that.
-pub fn hold<R: Read>(from: &mut R, head: &[u8; 28], first: usize, place: &mut [u8]) -> bool
+// Makes the place hold what the three numbers from the first on say; an error where the input ends within that.
+pub fn hold<R: Read>(from: &mut R, head: &[u8; 28], first: usize, place: &mut [u8]) -> io::Result<()>
     requires { first < 5 }
 {
     place.fill((at(head, first) % 256) as u8);
     let end = within(head, first + 2, place.len());
     let start = within(head, first + 1, end);
-    read(from, &mut place[start..end])
+    from.read_exact(&mut place[start..end])
 }
