@@ -1,0 +1,12 @@
+-- `reply::refuse` meets its contract: the number that is written is the refusal's.
+use Rattle.std.proofs.Common.{◌≡◌, rules, subst}
+use Rattle.page.specs.Numbers.{number_of}
+use Rattle.page.specs.ListingText.{refused_line}
+use Rattle.writing.specs.Steps.{Put}
+use Rattle.reply.proofs.refuse.Goals as goal
+
+pub returns : goal.returns
+returns c =
+    let number : c.match-refused.number ≡ number_of c.args.refused.refusal = search rules in
+    let e = c.args.refused in
+    subst (λ n. Put 0 (refused_line n e.line e.field) c.args.place.now c.write_refusal.new.place c.write_refusal.result) number c.write_refusal.ensures
