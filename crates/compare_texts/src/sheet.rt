@@ -31,7 +31,11 @@ pub fn words_of(answer: Result<Sheet, Refused>, last: u64) -> [u8; 440] {
         Ok(sheet) => ([0; 3], head_words(sheet), sheet.coefficients.map(signed)),
         Err(refused) => (fault_words(refused), [0; 6], [0; 45]),
     };
-    let words = fault.into_iter().chain(head).chain(coefficients).chain([last]);
+    let words = fault
+        .into_iter()
+        .chain(head)
+        .chain(coefficients)
+        .chain([last]);
     let mut out = [0; 440];
     for (eight, word) in out.chunks_exact_mut(8).zip(words) {
         eight.copy_from_slice(&word.to_le_bytes());

@@ -28,7 +28,12 @@ pub fn within(head: &[u8; 28], i: usize, most: usize) -> usize
 }
 
 // Makes the place hold what the three numbers from the first on say; an error where the input ends within that.
-pub fn hold<R: Read>(from: &mut R, head: &[u8; 28], first: usize, place: &mut [u8]) -> io::Result<()>
+pub fn hold<R: Read>(
+    from: &mut R,
+    head: &[u8; 28],
+    first: usize,
+    place: &mut [u8],
+) -> io::Result<()>
     requires { first < 5 }
 {
     place.fill((at(head, first) % 256) as u8);

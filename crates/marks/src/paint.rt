@@ -1,5 +1,5 @@
 // Bytes of a raster: a run of them in one row, and the block of the finest cells that a cell covers.
-ghost use Rattle.std.specs.Prelude.{◌≡◌, ◌+◌, ◌-◌, ◌^◌, ◌≤◌, ◌<◌, length};
+ghost use Rattle.std.specs.Prelude.{◌≡◌, ◌+◌, ◌-◌, ◌^◌, ◌≤◌, length};
 ghost use Rattle.page.specs.Scaled.{IsCell};
 ghost use Rattle.marks.specs.Steps.{Run, Block};
 

@@ -11,7 +11,7 @@ use Rattle.page.specs.SheetLine.{lines}
 use Rattle.page.specs.SheetText.{Said, Text, bad_line, well_formed, text_of, to_read, Outcome, refused, accepted, outcome_of, outcome}
 use Rattle.page.specs.ListingText.{refused_line}
 use Rattle.page.proofs.ReadFacts.{read_never}
-use Rattle.std.specs.Prelude.{Result, Ok, Err}
+use Rattle.std.specs.Prelude.{Ok, Err}
 use Rattle.page.specs.Numbers.{number_of, by_number}
 use Rattle.reading.specs.declared.Sheet.{Sheet}
 use Rattle.reading.specs.declared.Refused.{Refused}

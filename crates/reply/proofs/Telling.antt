@@ -1,16 +1,14 @@
 -- The listing of an accepted text: its records, and the text that they tell.
 use mathlib.Core.Path.{◌≡◌, refl, sym, ◌∙◌, ap, ap₂, subst}
-use mathlib.Core.Bool.{Bool, true, false}
 use mathlib.Core.List.{List, ◌++◌}
 use Prim.Native.Nat.{ℕ, ◌+◌, ◌*◌, ◌-◌, ◌^◌, ◌≤◌}
 use native.Mathlib.Nat as Nat
 use native.Mathlib.Omega.{arith}
 use borrow.Author.Tests.{le-ltb}
-use lib.Dec.{T}
 use lib.IntN.{pos}
 use lib.ListN.{length, take, drop, replicate, length-append, length-drop}
 use lib.Seq.{take_at}
-use Rattle.verdicts.specs.Walking.{Verdicts, records, visited, coloured, largest_bend}
+use Rattle.verdicts.specs.Walking.{Verdicts, records, visited, coloured}
 use Rattle.verdicts.proofs.Bounds.{power_small}
 use Rattle.verdicts.proofs.Lengths.{listing_long}
 use Rattle.page.specs.Sheet.{Sheet, count, sheet_of}

@@ -1,5 +1,5 @@
 -- `reply::list` meets its contract: the records are those of the listing, and their lines the page's text.
-use Rattle.std.proofs.Common.{◌≡◌, ◌≤◌, length, sym}
+use Rattle.std.proofs.Common.{sym}
 use native.Mathlib.Nat as Nat
 use lib.Seq.{length-take-le}
 use Rattle.reply.proofs.Telling.{within, room_for, lists, not_refused}

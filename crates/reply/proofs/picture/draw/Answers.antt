@@ -1,5 +1,5 @@
 -- `reply::picture::draw` meets its contract: the raster is that of the sheet, and what is written of it the picture.
-use Rattle.std.proofs.Common.{◌≡◌, ◌≤◌, length, sym}
+use Rattle.std.proofs.Common.{sym}
 use lib.Seq.{length-take-le}
 use Rattle.reply.proofs.Drawing.{deep, count_within, printed_from, draws, not_refused}
 use Rattle.reply.proofs.picture.draw.Goals as goal
