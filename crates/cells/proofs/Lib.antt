@@ -2,4 +2,3 @@ pub mod Forms
 pub mod Parts
 pub mod Widening
 pub mod Making
-pub mod Refused

@@ -32,7 +32,7 @@ struct Numbers {
     pub values: [i32; 3],
 }
 
-// The same of a line of a text, and where the next line begins.
+// The same of a line of a text, and where the next line begins. No Result, since a term is judged by two numbers before the fault of a third.
 #[derive(Clone, Copy)]
 pub struct Taken {
     pub fault: Option<Fault>,

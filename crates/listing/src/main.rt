@@ -1,4 +1,5 @@
 // The listing program: reads a sheet text from standard input and writes its listing, or the line of a refusal, to standard output.
+// `picture` is like it: one function for both would take the call, the place and the name, and be as long as what is spared.
 #![tactic(auto)]
 
 // Writes the listing of a text, or the line of its refusal.

@@ -8,7 +8,7 @@ ghost use Rattle.local.specs.Range.{Light, range_of, spare_in};
 use crate::sizes::{sizes, spared};
 use crate::{Range, Spare};
 
-// What the even rule spares in this mode.
+// What the even rule spares in this mode, a number of document 01 that every call takes.
 fn spared_in(places: &[i64; 45], d: usize, mode: u32) -> Spare
     requires { Light d places.now }
     ensures { result ≡ spare_in mode places.now d }

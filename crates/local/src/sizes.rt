@@ -16,7 +16,7 @@ pub fn sizes(places: &[i64; 45], count: usize) -> u64
     sum
 }
 
-// How far g is above 0, and how far below: 0 where it is not.
+// How far g is above 0, and how far below: 0 where it is not. The larger and the smaller of two is what tells them apart, and neither is a number.
 fn above(g: i64) -> u64
     ensures { result ≡ above_zero g }
 {

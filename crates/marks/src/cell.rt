@@ -7,7 +7,7 @@ ghost use Rattle.marks.specs.Steps.{one_seen, cut_seen, Few};
 use crate::Seen;
 use verdicts::Verdict;
 
-// 2 for a cell above, 3 for one below, 1 for an open one
+// 2 for a cell above, 3 for one below, 1 for an open one: a colour is a number, since document 01 has it in bytes and records.
 pub fn colour_of(verdict: Verdict) -> u8
     ensures { result ≡ colour_of (verdict ∷ []) }
 {

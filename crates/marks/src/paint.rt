@@ -3,7 +3,7 @@ ghost use Rattle.std.specs.Prelude.{◌≡◌, ◌+◌, ◌-◌, ◌^◌, ◌≤
 ghost use Rattle.page.specs.Scaled.{IsCell};
 ghost use Rattle.marks.specs.Steps.{Run, Block};
 
-// 2^n
+// 2^n. As a u32 in `printing`, as an i64 in `numbers`: one shift each, and one function for them all would ask a trait for it.
 fn side(n: u32) -> usize
     requires { n ≤ 7 }
     ensures { result ≡ 2 ^ n }

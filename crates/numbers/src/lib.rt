@@ -1,4 +1,5 @@
-// Whole numbers on the machine: sums of two products, sizes, and arithmetic with a ceiling.
+// Whole numbers on the machine: sums of two products, sizes, and arithmetic with a ceiling. Each is the operator or the method of the library, with a
+// contract in exact integers, by which a proof above is done with bits.
 // An inner crate: what its functions require, every caller proves.
 #![tactic(auto)]
 

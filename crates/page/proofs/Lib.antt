@@ -1,5 +1,6 @@
 pub mod Rows
 pub mod Numbers
+pub mod Refused
 pub mod TextRows
 pub mod Order
 pub mod Weights

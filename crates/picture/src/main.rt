@@ -1,4 +1,5 @@
 // The program `picture`: reads a sheet text from standard input and writes its picture, a plain PBM, or the line of a refusal, to standard output.
+// `listing` is like it, and says why they are two.
 #![tactic(auto)]
 
 // Writes the picture of a text, or the line of its refusal.

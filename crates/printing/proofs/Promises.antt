@@ -10,6 +10,7 @@ use Rattle.page.specs.declared.Refusal.{Refusal}
 use Rattle.page.specs.Numbers.{by_number, passed}
 use Rattle.page.proofs.Rows.{unless_ap, unless_refused, unless_none}
 use Rattle.page.proofs.Numbers.{Names, first_names, unless_named}
+use Rattle.page.proofs.Refused.{handed_up}
 use Rattle.pbm.specs.Writing.{picture_text}
 use Rattle.pbm.specs.Refusals.{write_table, write_refusal}
 use Rattle.writing.specs.Steps.{Put}
@@ -38,14 +39,6 @@ refused_by n = record { number = n; bytes = 0 }
 by_row : (m : ℕ) {e : Refusal} → passed m ≡ Err e → (m ≡ 0 → ⊥) × (e ≡ by_number m)
 by_row zero f = absurd (cc)
 by_row (suc m) f = (λ z. omega arith, cc)
-
-pub let_through : (m : ℕ) → passed m ≡ Ok tt → m ≡ 0
-let_through zero f = refl
-let_through (suc m) f = absurd (cc)
-
-pub handed_up : (r : Result ℕ Refusal) (e : Refusal) → IsErrAnd r (λ x. x ≡ e) → r ≡ Err e
-handed_up (Ok n) e h = absurd h
-handed_up (Err x) e h = ap refuse h
 
 module _ (k : ℕ) (raster old : List ℕ) where
   -- it is kept by the definition's answer and place

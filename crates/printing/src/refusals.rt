@@ -7,7 +7,7 @@ ghost use Rattle.page.specs.Numbers.{passed};
 
 use page::Refusal;
 
-// 2^k
+// 2^k, as in `marks` in another type
 pub fn side(k: u32) -> u32
     requires { k ≤ 7 }
     ensures { (result ≡ 2 ^ k) × (result ≤ 128) }

@@ -11,7 +11,7 @@ use Rattle.page.specs.SheetText.{Term, coefficient_of, Said, in_order, to_read, 
 use Rattle.page.specs.Steps.{mode_refusal}
 use Rattle.page.proofs.Order.{order_cong, order_first}
 use Rattle.page.proofs.Rows.{unless_none}
-use Rattle.cells.proofs.Refused.{passed_none}
+use Rattle.page.proofs.Refused.{passed_none}
 use Rattle.std.specs.Prelude.{Ok, Err}
 use Rattle.page.specs.declared.Refusal.{Refusal}
 use Rattle.page.specs.Numbers.{by_number, passed}

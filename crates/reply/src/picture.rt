@@ -1,4 +1,5 @@
-// The picture of a sheet text: its raster as a plain PBM, or the line of a refusal.
+// The picture of a sheet text: its raster as a plain PBM, or the line of a refusal. Function by function it is like the listing, beside it: what they have
+// in common are a test of the room and a match, and one function for both would take the rest as a closure, and ask of it what `Tells` says.
 ghost use Rattle.std.specs.Prelude.{◌≡◌, ◌^◌, ◌≤◌, length};
 ghost use Rattle.pbm.specs.PictureText.{picture_after};
 ghost use Rattle.reply.specs.Answers.{picture_room};

@@ -9,7 +9,6 @@ use lib.Pow.{pow_mono}
 use lib.Seq.{sets, sets-eq}
 use Rattle.std.proofs.Common.{Option, None, Some, Result, Ok, Err}
 use Rattle.std.specs.Option.{ok_or}
-use Rattle.std.specs.Result.{IsErrAnd}
 use Rattle.page.specs.declared.Refusal.{Refusal}
 use Rattle.page.specs.declared.Refusal.TheVariants.{NotPlain, Sides, Place}
 use Rattle.page.specs.Numbers.{by_number}
@@ -24,13 +23,9 @@ use Rattle.scanning.proofs.Depths.{depth_told, no_depth, Deep, has_depth}
 use Rattle.scanning.proofs.Masking.{mask_first}
 use Rattle.scanning.proofs.Promises.{row_12, row_13, row_7, no_row, refused, done, as_found}
 
--- ---- the refusal that is handed up, and the one that is put where there is no value
+-- ---- the refusal that is put where there is no value
 abbrev refuse : {X : Type 0} → Refusal → Result X Refusal
 refuse e = Err e
-
-pub handed_up : (r : Result ℕ Refusal) (e : Refusal) → IsErrAnd r (λ x. x ≡ e) → r ≡ Err e
-handed_up (Ok k) e h = absurd h
-handed_up (Err x) e h = ap (refuse {X = ℕ}) h
 
 pub put_in : {X : Type 0} (o : Option X) {e n : Refusal} → o ≡ None → refuse e ≡ ok_or o n → e ≡ n
 put_in None z v = cc

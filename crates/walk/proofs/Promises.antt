@@ -11,7 +11,7 @@ use Rattle.page.specs.Numbers.{passed}
 use Rattle.page.specs.Refusals.{refusal, to_walk}
 use Rattle.page.proofs.Numbers.{table_named, unless_named}
 use Rattle.page.proofs.Rows.{unless_ap, unless_refused, unless_none}
-use Rattle.cells.proofs.Refused.{refused_same, refused_some}
+use Rattle.page.proofs.Refused.{refused_same, refused_some}
 use Rattle.marks.specs.declared.Seen.{Seen}
 use Rattle.walk.specs.declared.Records.{Records}
 use Rattle.walk.specs.Answers.{verdicts, tally, tallied, states_tally, reckoned, rastered, listed, states_listing, enumerated, recorded}

@@ -1,4 +1,5 @@
 // The text of a listing, or of a refusal, written on a place that is lent.
+// The place and where to go on stand beside each other: a cursor would hold both, and its contracts say no more plainly what is written, and what stays.
 // An inner crate: what its functions require, every caller proves.
 #![tactic(auto)]
 

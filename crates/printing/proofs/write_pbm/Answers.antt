@@ -11,12 +11,13 @@ use Rattle.writing.proofs.Puts.{put_two}
 use Rattle.printing.proofs.Squares.{square_is}
 use Rattle.printing.proofs.Refusing.{Passed, passed}
 use Rattle.printing.proofs.Pictures.{picture_is, picture_long}
-use Rattle.printing.proofs.Promises.{let_through, print_refused, print_done}
+use Rattle.page.proofs.Refused.{passed_none}
+use Rattle.printing.proofs.Promises.{print_refused, print_done}
 use Rattle.printing.proofs.write_pbm.Goals as goal
 
 -- nothing refuses, so the raster is whole, and the text has room
 nothing : (k r n : ℕ) {x : Result Unit Refusal} → x ≡ answer (write_refusal k r n) → x ≡ Ok tt → (write_refusal k r n ≡ 0) × Passed k r n
-nothing k r n e f = let z = let_through (write_refusal k r n) (sym e ∙ f) in (z, passed k r n z)
+nothing k r n e f = let z = passed_none tt (write_refusal k r n) (sym e ∙ f) in (z, passed k r n z)
 
 pub returns-in_err-print_refusal : goal.returns-in_err-print_refusal
 returns-in_err-print_refusal c = let a = c.args in print_refused a.k a.raster.now a.place.now c.from_residual.ensures.1 (sym c.print_refusal.ensures ∙ c.in_err-print_refusal.was)

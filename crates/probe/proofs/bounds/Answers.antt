@@ -8,7 +8,7 @@ use Rattle.page.specs.Sheet.{sheet_of, mode_of}
 use Rattle.page.specs.Refusals.{in_cell, refusal}
 use Rattle.page.proofs.Rows.{cell_passed}
 use Rattle.cells.specs.Cell.{CellForm}
-use Rattle.cells.proofs.Refused.{refused_same, passed_none}
+use Rattle.page.proofs.Refused.{refused_same, passed_none}
 use Rattle.cells.proofs.Making.{held_form}
 use Rattle.cells.proofs.Forms.{cell_light, verdict_by}
 use Rattle.probe.specs.Answers.{bounded}

@@ -9,7 +9,7 @@ use Rattle.page.specs.Sheet.{sheet_of}
 use Rattle.page.specs.Weight.{weight}
 use Rattle.page.specs.Refusals.{refusal, to_check}
 use Rattle.page.proofs.Rows.{check_passed}
-use Rattle.cells.proofs.Refused.{refused_same, passed_none, passed_values}
+use Rattle.page.proofs.Refused.{refused_same, passed_none, passed_values}
 use Rattle.probe.specs.declared.Checked.{Checked}
 use Rattle.probe.specs.Answers.{checked}
 use Rattle.probe.proofs.Promises.{check_kept}

@@ -8,7 +8,7 @@ use Rattle.page.specs.Sheet.{sheet_of}
 use Rattle.page.specs.Refusals.{refusal, at_point}
 use Rattle.page.proofs.Rows.{point_passed}
 use Rattle.page.proofs.Cells.{point_limit}
-use Rattle.cells.proofs.Refused.{refused_same, passed_none}
+use Rattle.page.proofs.Refused.{refused_same, passed_none}
 use Rattle.cells.proofs.Widening.{scalable}
 use Rattle.cells.proofs.Making.{valuable, value_is}
 use Rattle.probe.specs.Answers.{valued}

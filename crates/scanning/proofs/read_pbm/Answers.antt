@@ -10,7 +10,8 @@ use Rattle.pbm.specs.Refusals.{not_plain}
 use Rattle.pbm.specs.Steps.{found}
 use Rattle.scanning.specs.Promises.{ScanPromise}
 use Rattle.scanning.specs.Steps.{depth_at, PictureRead, PictureFound}
-use Rattle.scanning.proofs.Answering.{handed_up, put_in, mask_small, no_picture_read, no_depth_read, depth_small, digits_ahead, short_read, mask_read}
+use Rattle.page.proofs.Refused.{handed_up}
+use Rattle.scanning.proofs.Answering.{put_in, mask_small, no_picture_read, no_depth_read, depth_small, digits_ahead, short_read, mask_read}
 use Rattle.scanning.proofs.read_pbm.Goals as goal
 
 pub returns-in_err-head : goal.returns-in_err-head

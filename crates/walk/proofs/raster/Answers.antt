@@ -6,7 +6,7 @@ use mir.Facts.{to_z-of_z}
 use Rattle.page.specs.Sheet.{sheet_of}
 use Rattle.page.specs.Refusals.{refusal, to_walk}
 use Rattle.page.proofs.Rows.{walk_passed}
-use Rattle.cells.proofs.Refused.{passed_none}
+use Rattle.page.proofs.Refused.{passed_none}
 use Rattle.walk.specs.Answers.{verdicts}
 use Rattle.walk.specs.Steps.{Examined}
 use Rattle.walk.proofs.Whole.{room, whole_form, ready, raster_whole, counted_whole}

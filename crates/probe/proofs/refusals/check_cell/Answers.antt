@@ -9,7 +9,7 @@ use Rattle.page.specs.Steps.{mode_refusal}
 use Rattle.page.specs.Numbers.{passed, by_number}
 use Rattle.page.proofs.Rows.{cell_rows, mode_passed, rest}
 use Rattle.cells.specs.Sheet.{the_sheet}
-use Rattle.cells.proofs.Refused.{refused_first, passed_none}
+use Rattle.page.proofs.Refused.{refused_first, passed_none}
 use Rattle.probe.proofs.refusals.check_cell.Goals as goal
 use Rattle.probe.proofs.refusals.check_cell.Goals.{then-columns-cell-via-then-columns-cell, then-columns-cell-via-else-columns-cell+then-columns-cell-2}
 

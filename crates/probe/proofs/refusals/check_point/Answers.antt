@@ -8,7 +8,7 @@ use Rattle.page.specs.Refusals.{refusal, to_check}
 use Rattle.page.specs.Numbers.{passed, by_number}
 use Rattle.page.proofs.Rows.{point_rows, check_passed, rest}
 use Rattle.cells.specs.Sheet.{the_sheet}
-use Rattle.cells.proofs.Refused.{refused_first, passed_none}
+use Rattle.page.proofs.Refused.{refused_first, passed_none}
 use Rattle.probe.proofs.refusals.check_point.Goals as goal
 use Rattle.probe.proofs.refusals.check_point.Goals.{then-outside-via-then-outside, then-outside-via-else-outside+then-outside-2}
 

@@ -8,7 +8,7 @@ use Rattle.page.specs.Steps.{range_refusal}
 use Rattle.page.specs.Numbers.{answer, by_number}
 use Rattle.page.proofs.Rows.{check_rows, range_passed, heavy, not_heavy, rest}
 use Rattle.cells.specs.Sheet.{the_sheet}
-use Rattle.cells.proofs.Refused.{refused_first, passed_none}
+use Rattle.page.proofs.Refused.{refused_first, passed_none}
 use Rattle.probe.proofs.refusals.check_sheet.Goals as goal
 
 pub returns-in_err-check_ranges : goal.returns-in_err-check_ranges

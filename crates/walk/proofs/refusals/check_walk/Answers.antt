@@ -12,7 +12,7 @@ use Rattle.page.specs.Steps.{mode_refusal}
 use Rattle.page.specs.Numbers.{passed, by_number}
 use Rattle.page.proofs.Rows.{walk_rows, mode_passed, no_row_9, rest}
 use Rattle.cells.specs.Sheet.{the_sheet}
-use Rattle.cells.proofs.Refused.{refused_first, passed_none}
+use Rattle.page.proofs.Refused.{refused_first, passed_none}
 use Rattle.walk.proofs.refusals.check_walk.Goals as goal
 
 pub returns-in_err-check_mode : goal.returns-in_err-check_mode

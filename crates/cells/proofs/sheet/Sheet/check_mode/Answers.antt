@@ -11,7 +11,7 @@ use Rattle.page.specs.Steps.{range_refusal, mode_refusal}
 use Rattle.page.specs.Numbers.{passed, by_number}
 use Rattle.page.proofs.Rows.{mode_rows, range_passed, heavy, not_heavy, rest}
 use Rattle.cells.specs.Sheet.{the_sheet}
-use Rattle.cells.proofs.Refused.{refused_first, passed_none}
+use Rattle.page.proofs.Refused.{refused_first, passed_none}
 use Rattle.cells.proofs.sheet.Sheet.check_mode.Goals as goal
 
 pub returns-in_err-check_ranges : goal.returns-in_err-check_ranges

@@ -7,15 +7,16 @@ use Rattle.page.specs.declared.Refusal.{Refusal}
 use Rattle.page.specs.Numbers.{by_number, answer}
 use Rattle.page.proofs.Rows.{or_else}
 
+-- ---- the refusal that is handed up
+pub handed_up : {X : Type 0} (r : Result X Refusal) (e : Refusal) → IsErrAnd r (λ x. x ≡ e) → r ≡ Err e
+handed_up (Ok x) e h = absurd h
+handed_up (Err x) e h = ap Err h
+
 -- ---- of a step with the values v, of which the call, with the values w, returns the refusal e
 module _ {X Y : Type 0} (v : X) (w : Y) {e : Refusal} (r : Result Y Refusal) where
   pub refused_same : (n : ℕ) → answer n v ≡ Err e → IsErrAnd r (λ x. x ≡ e) → r ≡ answer n w
   refused_same zero h g = cc
-  refused_same (suc n) h g = returned r g
-    where
-      returned : (r : Result Y Refusal) → IsErrAnd r (λ x. x ≡ e) → r ≡ Err (by_number (suc n))
-      returned (Ok y) g = absurd g
-      returned (Err x) g = let q : by_number (suc n) ≡ e = cc in ap Err (g ∙ sym q)
+  refused_same (suc n) h g = let q : by_number (suc n) ≡ e = cc in handed_up r e g ∙ ap Err (sym q)
 
   -- more is tried after it
   pub refused_first : (n m : ℕ) → answer n v ≡ Err e → IsErrAnd r (λ x. x ≡ e) → r ≡ answer (or_else n m) w
