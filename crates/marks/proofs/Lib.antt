@@ -1,3 +1,4 @@
 pub mod Picks
 pub mod Runs
 pub mod Blocks
+pub mod Leaving

@@ -30,23 +30,10 @@ use Rattle.cells.specs.Cell.{PartOf}
 use Rattle.cells.specs.declared.cell.Cell.{Cell}
 use Rattle.marks.specs.declared.Seen.{Seen}
 use Rattle.marks.specs.Steps.{one_seen, cut_seen, Few}
-use Rattle.walk.specs.Steps.{Counted, OwnForm, NearForm, Owned, Carried}
-
--- a cell whose own colour is 1 is open
-pub open_by : (w : Verdict) → colour_of (w ∷ []) ≡ 1 → Opened w
-open_by w e = elim (kind w) [
-  | clears c s ↦ absurd (true≢false (sym (ap (λ n. eqb n 1) (sym s.painted ∙ e)) ∙ s.plain))
-  | opens s ↦ s
-]
+use Rattle.marks.proofs.Leaving.{open_by}
+use Rattle.walk.specs.Steps.{Counted, Settled, OwnForm, NearForm, Owned, Carried}
 
 -- ---- a cell of the colour c that is not cut, with n levels below it
-pub record Settled (v : Verdicts) (level n p q c : ℕ) : Type 0 where
-  pub visits : visited_from v level n p q ≡ 1
-  pub colours : coloured_from v level n p q ≡ cond (eqb c 1) 1 0
-  pub bends : bend_from v level n p q ≡ cond (eqb c 1) (carried_bend (v level p q)) 0
-  pub records : records_from v level n p q ≡ record_of c level p q ∷ []
-  pub paints : (x y : ℕ) → x / 2 ^ n ≡ p → y / 2 ^ n ≡ q → colour_from v level n x y ≡ c
-
 -- it is cleared, or it is a finest one
 pub settled : (v : Verdicts) (level n p q c : ℕ) → c ≡ colour_of (v level p q ∷ []) → (c ≡ 1 → n ≡ 0) → Settled v level n p q c
 settled v level n p q c e h = elim (kind (v level p q)) [

@@ -1,6 +1,5 @@
 pub mod Cells
-pub mod Painting
-pub mod Recording
+pub mod Leaving
 pub mod Whole
 pub mod Promises
 pub mod Facts

@@ -12,6 +12,7 @@ use lib.IntN.{pos}
 use lib.ListN.{length, get_or, drop, length-append, length-drop, get_or-append}
 use lib.Pow.{pow_pos}
 use lib.Seq.{get_or-append-add, get_or-drop, ext_get_or, sets, sets-eq}
+use Rattle.algebra.specs.Written.{Written}
 use Rattle.algebra.proofs.Choice.{and_both}
 use Rattle.algebra.proofs.Power.{*_pow}
 use Rattle.verdicts.specs.Walking.{Verdicts, raster, records, visited, coloured, largest_bend}
@@ -31,9 +32,8 @@ use Rattle.local.specs.Form.{Tabled}
 use Rattle.cells.proofs.Making.{held_form}
 use Rattle.cells.proofs.Parts.{whole_near}
 use Rattle.marks.specs.declared.Seen.{Seen}
-use Rattle.walk.specs.declared.Records.{Records}
 use Rattle.marks.specs.Steps.{in_block}
-use Rattle.walk.specs.Steps.{Counted, Examined, Recorded, NearForm, Carried}
+use Rattle.walk.specs.Steps.{Counted, Finest, NearForm, Carried}
 
 -- ---- what a walk that no row refuses may begin with
 module _ (S : Sheet) (mode n : ℕ) (e : refusal (to_walk S mode n) ≡ 0) where
@@ -70,9 +70,9 @@ beyond k i l =
     let m : 1 ≤ i / 2 ^ k / 2 ^ k = (Nat.le-div_iff_mul-le (pow_pos k)).1 j in
     ap (λ b. eqb (i % 2 ^ k / 2 ^ k) 0 && b) (ne_eqb (i / 2 ^ k / 2 ^ k) 0 (λ e. omega arith)) ∙ and-false (eqb (i % 2 ^ k / 2 ^ k) 0)
 
-pub raster_whole : (v : Verdicts) (k : ℕ) (old now : List ℕ) (r : Seen) → 4 ^ k ≤ length old → Examined v k 0 0 0 old now r → now ≡ raster v k ++ drop (4 ^ k) old
-raster_whole v k old now r room e =
-    let p = rw Nat.sub-zero at e.painted in let same = p.long in
+pub raster_whole : (v : Verdicts) (k : ℕ) (old now : List ℕ) → 4 ^ k ≤ length old → Finest v k 0 0 0 old now → now ≡ raster v k ++ drop (4 ^ k) old
+raster_whole v k old now room e =
+    let p = rw Nat.sub-zero at e in let same = p.long in
     ext_get_or 0 now (raster v k ++ drop (4 ^ k) old)
     (same ∙ sym (over_length (raster v k) old (raster_long v k) room))
     (λ i l. p.each i (omega arith) ∙ elim (dec_lt i (4 ^ k)) [
@@ -91,8 +91,8 @@ counted_whole v k r c = (
 )
 
 -- ---- the listing
-pub listing_whole : (v : Verdicts) (k : ℕ) (old now : List ℕ) (r : Records) → 4 ^ k ≤ length old → Recorded v k 0 0 0 0 old now r
-    → (r.length ≡ length (records v k)) × (now ≡ records v k ++ drop (length (records v k)) old)
-listing_whole v k old now r room h =
+pub listing_whole : (v : Verdicts) (k : ℕ) (old now : List ℕ) (end : ℕ) → 4 ^ k ≤ length old → Written (records_from v 0 (k - 0) 0 0) 0 old now end
+    → (end ≡ length (records v k)) × (now ≡ records v k ++ drop (length (records v k)) old)
+listing_whole v k old now end room h =
     let e : records_from v 0 (k - 0) 0 0 ≡ records v k = ap (λ n. records_from v 0 n 0 0) (Nat.sub-zero k) ∙ records_are v k in let l = (listing_long v k).2 in
-    (h.written.ends ∙ Nat.zero-add (length (records_from v 0 (k - 0) 0 0)) ∙ ap length e, h.written.written ∙ ap (sets old 0) e ∙ sets-eq (records v k) old 0 (omega arith) ∙ ap (λ n. records v k ++ drop n old) (Nat.zero-add (length (records v k))))
+    (h.ends ∙ Nat.zero-add (length (records_from v 0 (k - 0) 0 0)) ∙ ap length e, h.written ∙ ap (sets old 0) e ∙ sets-eq (records v k) old 0 (omega arith) ∙ ap (λ n. records v k ++ drop n old) (Nat.zero-add (length (records v k))))

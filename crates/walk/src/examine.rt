@@ -1,16 +1,17 @@
-// Walking a sheet for its raster: examining a cell and cutting it call on each other, and the levels left fall.
-ghost use Rattle.std.specs.Prelude.{◌^◌, ◌≤◌, ◌<◌, length};
+// Walking a sheet: examining a cell and cutting it call on each other, and the levels left fall. What a cell leaves in the lent place is a raster's or a listing's.
+ghost use Rattle.std.specs.Prelude.{◌-◌, ◌^◌, ◌<◌};
 ghost use Rattle.walk.specs.Steps.{Carried, EachExamined, Owned, EachCut};
 
+use crate::leaves::Leaves;
 use cells::Cell;
 use local::Form;
-use marks::{Seen, bend_of, colour_of, cut_cell, one_cell, paint_block};
+use marks::{Seen, bend_of, colour_of, cut_cell, one_cell};
 
 // A cell above or below is cleared and is not cut. An open cell at level k is coloured; one at a lower level is cut.
 // The form is near to the cell's: it is moved by `across` and `along`, each -1, 0 or 1, in the cell's own copy.
 #[cycle(cut_examine)]
-pub fn examine(
-    place: &mut [u8],
+pub fn examine<L: Leaves>(
+    place: &mut L,
     mut form: Form,
     across: i64,
     along: i64,
@@ -18,8 +19,8 @@ pub fn examine(
     mode: u32,
     cell: Cell,
 ) -> Seen
-    requires { Carried form across along k cell.level cell.column cell.row × (4 ^ k ≤ length place.old) }
-    ensures { EachExamined form across along k mode cell.level cell.column cell.row place.old place.new result }
+    requires { Carried form across along k cell.level cell.column cell.row × L.HasRoom k (4 ^ (k - cell.level)) place.old }
+    ensures { EachExamined L.Left form across along k mode cell.level cell.column cell.row place.old place.new result }
 {
     let n = form.degree as usize;
     tables::to_part(&mut form.places, n, across, along);
@@ -30,15 +31,15 @@ pub fn examine(
             return cut(place, form, k, mode, cell);
         }
     }
-    paint_block(place, k, cell.level, cell.column, cell.row, colour);
+    place.leave(k, cell, colour);
     one_cell(colour, bend_of(verdict))
 }
 
 // Four parts, in the order lower left, lower right, upper left, upper right. Each is handed the form of the whole, halved, and its side.
 #[cycle(cut_examine)]
-fn cut(place: &mut [u8], mut form: Form, k: u32, mode: u32, cell: Cell) -> Seen
-    requires { Owned form k cell.level cell.column cell.row × (4 ^ k ≤ length place.old) × (cell.level < k) }
-    ensures { EachCut form k mode cell.level cell.column cell.row place.old place.new result }
+fn cut<L: Leaves>(place: &mut L, mut form: Form, k: u32, mode: u32, cell: Cell) -> Seen
+    requires { Owned form k cell.level cell.column cell.row × L.HasRoom k (4 ^ (k - cell.level)) place.old × (cell.level < k) }
+    ensures { EachCut L.Left form k mode cell.level cell.column cell.row place.old place.new result }
 {
     let n = form.degree as usize;
     tables::halve(&mut form.places, n);

@@ -2,13 +2,14 @@
 #![tactic(auto)]
 
 mod examine;
-mod list;
+mod leaves;
 mod refusals;
 
 ghost use Rattle.page.specs.Sheet.{sheet_of};
 ghost use Rattle.walk.specs.Promises.{RasterPromise, ListingPromise};
 
 use cells::{Cell, Sheet};
+use leaves::{Bytes, Entries};
 pub use marks::Seen;
 pub use page::Refusal;
 
@@ -50,7 +51,8 @@ pub fn raster(
     let bytes = place.len();
     refusals::check_walk(sheet, mode, bytes)?;
     let form = sheet.cell_form(WHOLE);
-    let seen = examine::examine(place, form, 0, 0, k, mode, WHOLE);
+    let mut bytes = Bytes { place };
+    let seen = examine::examine(&mut bytes, form, 0, 0, k, mode, WHOLE);
     Ok(seen)
 }
 
@@ -78,6 +80,8 @@ pub fn listing(
     let entries = place.len();
     refusals::check_walk(sheet, mode, entries)?;
     let form = sheet.cell_form(WHOLE);
-    let records = list::list_cell(place, 0, form, 0, 0, k, mode, WHOLE);
-    Ok(records)
+    let mut entries = Entries { place, length: 0 };
+    let seen = examine::examine(&mut entries, form, 0, 0, k, mode, WHOLE);
+    let length = entries.length;
+    Ok(Records { length, seen })
 }

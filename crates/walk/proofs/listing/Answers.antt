@@ -3,13 +3,13 @@ use mathlib.Core.Path.{sym, ◌∙◌}
 use native.Mathlib.Nat as Nat
 use native.Mathlib.Omega.{arith}
 use lib.ListN.{length}
+use Rattle.std.proofs.Common.{rules}
 use mir.Facts.{to_z-of_z}
 use Rattle.page.specs.Sheet.{sheet_of}
 use Rattle.page.specs.Refusals.{refusal, to_walk}
 use Rattle.page.proofs.Rows.{walk_passed}
 use Rattle.page.proofs.Refused.{passed_none}
 use Rattle.walk.specs.Answers.{verdicts}
-use Rattle.walk.specs.Steps.{Recorded}
 use Rattle.walk.proofs.Whole.{room, whole_form, ready, listing_whole, counted_whole}
 use Rattle.walk.proofs.Promises.{listing_refused, listing_done}
 use Rattle.walk.proofs.listing.Goals as goal
@@ -27,8 +27,8 @@ cell_form-form-requires c =
     let none = passed_none tt (refusal (to_walk S a.mode (length a.place.now))) (sym tried ∙ c.in_ok-check_walk.was) in
     rw (to_z-of_z c.ranges.x, to_z-of_z c.ranges.y) ((walk_passed S a.mode _ none).0, record { level = omega arith; column = omega arith; row = omega arith })
 
-pub list_cell-records-requires : goal.list_cell-records-requires
-list_cell-records-requires c =
+pub examine-seen-requires : goal.examine-seen-requires
+examine-seen-requires c =
     let a = c.args in let S = sheet_of a.d a.coefficients.now a.x a.y a.s a.k in
     let tried = rw (to_z-of_z c.ranges.x, to_z-of_z c.ranges.y) at c.check_walk.ensures in
     let none = passed_none tt (refusal (to_walk S a.mode (length a.place.now))) (sym tried ∙ c.in_ok-check_walk.was) in
@@ -41,6 +41,7 @@ returns c =
     let none = passed_none tt (refusal (to_walk S a.mode (length a.place.now))) (sym tried ∙ c.in_ok-check_walk.was) in
     let f = rw (to_z-of_z c.ranges.x, to_z-of_z c.ranges.y) at c.cell_form-form.ensures in
     let v = verdicts S a.mode in
-    let w : Recorded v a.k 0 0 0 0 a.place.now c.list_cell-records.new.place c.list_cell-records.result = c.list_cell-records.ensures S (whole_form S a.mode _ none f) in
-    let n = counted_whole v a.k c.list_cell-records.result.seen w.counted in let l = listing_whole v a.k a.place.now _ c.list_cell-records.result (room S a.mode _ none) w in
-    listing_done S a.mode a.place.now none n l.0 l.1
+    let w = c.examine-seen.ensures S (whole_form S a.mode _ none f) in
+    let n = counted_whole v a.k c.examine-seen.result w.counted in let l = listing_whole v a.k a.place.now _ _ (room S a.mode _ none) w.leaves.1 in
+    let done = listing_done S a.mode a.place.now none n l.0 l.1 in
+    search rules

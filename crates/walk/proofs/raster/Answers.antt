@@ -2,13 +2,13 @@
 use mathlib.Core.Path.{sym, ◌∙◌}
 use native.Mathlib.Omega.{arith}
 use lib.ListN.{length}
+use Rattle.std.proofs.Common.{rules}
 use mir.Facts.{to_z-of_z}
 use Rattle.page.specs.Sheet.{sheet_of}
 use Rattle.page.specs.Refusals.{refusal, to_walk}
 use Rattle.page.proofs.Rows.{walk_passed}
 use Rattle.page.proofs.Refused.{passed_none}
 use Rattle.walk.specs.Answers.{verdicts}
-use Rattle.walk.specs.Steps.{Examined}
 use Rattle.walk.proofs.Whole.{room, whole_form, ready, raster_whole, counted_whole}
 use Rattle.walk.proofs.Promises.{raster_refused, raster_done}
 use Rattle.walk.proofs.raster.Goals as goal
@@ -40,6 +40,7 @@ returns c =
     let none = passed_none tt (refusal (to_walk S a.mode (length a.place.now))) (sym tried ∙ c.in_ok-check_walk.was) in
     let f = rw (to_z-of_z c.ranges.x, to_z-of_z c.ranges.y) at c.cell_form-form.ensures in
     let v = verdicts S a.mode in
-    let w : Examined v a.k 0 0 0 a.place.now c.examine-seen.new.place c.examine-seen.result = c.examine-seen.ensures S (whole_form S a.mode _ none f) in
+    let w = c.examine-seen.ensures S (whole_form S a.mode _ none f) in
     let n = counted_whole v a.k c.examine-seen.result w.counted in
-    raster_done S a.mode a.place.now none n (raster_whole v a.k a.place.now _ c.examine-seen.result (room S a.mode _ none) w)
+    let done = raster_done S a.mode a.place.now none n (raster_whole v a.k a.place.now _ (room S a.mode _ none) w.leaves.1) in
+    search rules

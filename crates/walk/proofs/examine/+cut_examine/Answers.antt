@@ -9,42 +9,67 @@ use Rattle.verdicts.specs.Judging.{carried_bend}
 use Rattle.verdicts.specs.Walking.{colour_of}
 use Rattle.page.specs.Bounds.{verdict}
 use Rattle.local.specs.Range.{judged_by}
-use Rattle.walk.proofs.Cells.{open_by, settled, few, depth_small, moved_own, own_light, own_judged, numbers_small, lower_left, lower_right, upper_left, upper_right}
-use Rattle.walk.proofs.Painting.{examined_at, examined_one, examined_cut}
+use Rattle.marks.proofs.Leaving.{open_by}
+use Rattle.walk.proofs.Cells.{settled, counted_one, counted_cut, few, depth_small, moved_own, own_light, own_judged, lower_left, lower_right, upper_left, upper_right}
+use Rattle.walk.proofs.Leaving.{examined_at, room_first, room_second, room_third, room_fourth}
 use Rattle.walk.proofs.examine.+cut_examine.Goals as goal
 use Rattle.walk.proofs.examine.+cut_examine.Goals.{examine-then-colour-eq1+else-cell-k, examine-else-colour-eq1}
 
 -- ---- cut
-pub cut-part-requires : goal.cut-part-requires
-cut-part-requires t c = let n = numbers_small c.requires.0 in (n.0, n.1, n.2, omega arith, omega arith)
-
-pub cut-part-requires-2 : goal.cut-part-requires-2
-cut-part-requires-2 t c = let n = numbers_small c.requires.0 in (n.0, n.1, n.2, omega arith, omega arith)
-
-pub cut-part-requires-3 : goal.cut-part-requires-3
-cut-part-requires-3 t c = let n = numbers_small c.requires.0 in (n.0, n.1, n.2, omega arith, omega arith)
-
-pub cut-part-requires-4 : goal.cut-part-requires-4
-cut-part-requires-4 t c = let n = numbers_small c.requires.0 in (n.0, n.1, n.2, omega arith, omega arith)
-
 pub cut-examine-a-requires : goal.cut-examine-a-requires
-cut-examine-a-requires t c =
-    let o = c.requires.0 in (omega arith, (record { sheet = o.sheet; near = lower_left o.sheet c.requires.2 o.own c.halve.ensures c.part.ensures }, omega arith))
+cut-examine-a-requires g t c κs within =
+    let o = c.requires.0 in let w = g.met.L.Leaves in (
+      omega arith,
+      (
+        within,
+        (
+          record { sheet = o.sheet; near = lower_left o.sheet c.requires.2 o.own c.halve.ensures c.part.ensures },
+          rw c.part.ensures.level (room_first w.fewer w.rest c.requires.2 c.requires.1),
+        ),
+      ),
+    )
 
 pub cut-examine-b-requires : goal.cut-examine-b-requires
-cut-examine-b-requires t c =
-    let o = c.requires.0 in (omega arith, (record { sheet = o.sheet; near = lower_right o.sheet c.requires.2 o.own c.halve.ensures c.part-2.ensures }, omega arith))
+cut-examine-b-requires g t c κs within =
+    let o = c.requires.0 in let w = g.met.L.Leaves in (
+      omega arith,
+      (
+        within,
+        (
+          record { sheet = o.sheet; near = lower_right o.sheet c.requires.2 o.own c.halve.ensures c.part-2.ensures },
+          rw c.part-2.ensures.level (room_second w.fewer w.rest c.requires.2 c.requires.1 (rw c.part.ensures.level at (c.examine-a.ensures o.sheet (lower_left o.sheet c.requires.2 o.own c.halve.ensures c.part.ensures)))),
+        ),
+      ),
+    )
 
 pub cut-examine-c-requires : goal.cut-examine-c-requires
-cut-examine-c-requires t c =
-    let o = c.requires.0 in (omega arith, (record { sheet = o.sheet; near = upper_left o.sheet c.requires.2 o.own c.halve.ensures c.part-3.ensures }, omega arith))
+cut-examine-c-requires g t c κs within =
+    let o = c.requires.0 in let w = g.met.L.Leaves in (
+      omega arith,
+      (
+        within,
+        (
+          record { sheet = o.sheet; near = upper_left o.sheet c.requires.2 o.own c.halve.ensures c.part-3.ensures },
+          rw c.part-3.ensures.level (room_third w.fewer w.rest c.requires.2 c.requires.1 (rw c.part.ensures.level at (c.examine-a.ensures o.sheet (lower_left o.sheet c.requires.2 o.own c.halve.ensures c.part.ensures))) (rw c.part-2.ensures.level at (c.examine-b.ensures o.sheet (lower_right o.sheet c.requires.2 o.own c.halve.ensures c.part-2.ensures)))),
+        ),
+      ),
+    )
 
 pub cut-examine-d-requires : goal.cut-examine-d-requires
-cut-examine-d-requires t c =
-    let o = c.requires.0 in (omega arith, (record { sheet = o.sheet; near = upper_right o.sheet c.requires.2 o.own c.halve.ensures c.part-4.ensures }, omega arith))
+cut-examine-d-requires g t c κs within =
+    let o = c.requires.0 in let w = g.met.L.Leaves in (
+      omega arith,
+      (
+        within,
+        (
+          record { sheet = o.sheet; near = upper_right o.sheet c.requires.2 o.own c.halve.ensures c.part-4.ensures },
+          rw c.part-4.ensures.level (room_fourth w.fewer w.rest c.requires.2 c.requires.1 (rw c.part.ensures.level at (c.examine-a.ensures o.sheet (lower_left o.sheet c.requires.2 o.own c.halve.ensures c.part.ensures))) (rw c.part-2.ensures.level at (c.examine-b.ensures o.sheet (lower_right o.sheet c.requires.2 o.own c.halve.ensures c.part-2.ensures))) (rw c.part-3.ensures.level at (c.examine-c.ensures o.sheet (upper_left o.sheet c.requires.2 o.own c.halve.ensures c.part-3.ensures)))),
+        ),
+      ),
+    )
 
 pub cut-cut_cell-requires : goal.cut-cut_cell-requires
-cut-cut_cell-requires t c =
+cut-cut_cell-requires g t c =
     let a = c.args in let o = c.requires.0 in let k = depth_small o in (
       few (verdict o.sheet (mode_of a.mode)) _ _ _ _ _ k (c.examine-a.ensures o.sheet (lower_left o.sheet c.requires.2 o.own c.halve.ensures c.part.ensures)).counted,
       few (verdict o.sheet (mode_of a.mode)) _ _ _ _ _ k (c.examine-b.ensures o.sheet (lower_right o.sheet c.requires.2 o.own c.halve.ensures c.part-2.ensures)).counted,
@@ -53,33 +78,39 @@ cut-cut_cell-requires t c =
     )
 
 pub cut-returns : goal.cut-returns
-cut-returns t c S f o =
+cut-returns g t c S f o =
     let a = c.args in let v = verdict S (mode_of a.mode) in
-    rw c.cut_cell.ensures (examined_cut v a.k a.cell.level a.cell.column a.cell.row _ _ _ _ _ _ _ _ _ c.requires.2 (open_by _ o)
-    (examined_at (omega arith) (omega arith) (omega arith) (c.examine-a.ensures S (lower_left S c.requires.2 f c.halve.ensures c.part.ensures)))
-    (examined_at (omega arith) (omega arith) (omega arith) (c.examine-b.ensures S (lower_right S c.requires.2 f c.halve.ensures c.part-2.ensures)))
-    (examined_at (omega arith) (omega arith) (omega arith) (c.examine-c.ensures S (upper_left S c.requires.2 f c.halve.ensures c.part-3.ensures)))
-    (examined_at (omega arith) (omega arith) (omega arith) (c.examine-d.ensures S (upper_right S c.requires.2 f c.halve.ensures c.part-4.ensures))))
+    let w = examined_at (omega arith) (omega arith) (omega arith) (c.examine-a.ensures S (lower_left S c.requires.2 f c.halve.ensures c.part.ensures)) in
+    let x = examined_at (omega arith) (omega arith) (omega arith) (c.examine-b.ensures S (lower_right S c.requires.2 f c.halve.ensures c.part-2.ensures)) in
+    let y = examined_at (omega arith) (omega arith) (omega arith) (c.examine-c.ensures S (upper_left S c.requires.2 f c.halve.ensures c.part-3.ensures)) in
+    let z = examined_at (omega arith) (omega arith) (omega arith) (c.examine-d.ensures S (upper_right S c.requires.2 f c.halve.ensures c.part-4.ensures)) in
+    record {
+      leaves = g.met.L.Leaves.parts v a.k a.cell.level a.cell.column a.cell.row _ _ _ _ _ c.requires.2 o w.leaves x.leaves y.leaves z.leaves;
+      counted = rw c.cut_cell.ensures (counted_cut v a.k a.cell.level a.cell.column a.cell.row _ _ _ _ c.requires.2 (open_by _ o) w.counted x.counted y.counted z.counted);
+    }
 
 -- ---- examine: the form is the cell's own, and the verdict the page's, whichever sheet it is
 pub examine-range_on-requires : goal.examine-range_on-requires
-examine-range_on-requires t c =
+examine-range_on-requires g t c =
     let h = c.requires.0 in
     own_light (moved_own (rw (to_z-of_z c.ranges.across, to_z-of_z c.ranges.along) at c.to_part.ensures) h.sheet h.near)
 
 pub examine-cut-requires : goal.examine-cut-requires
-examine-cut-requires t c =
+examine-cut-requires g t c κs within =
     let h = c.requires.0 in (
       omega arith,
       (
-        record { sheet = h.sheet; own = moved_own (rw (to_z-of_z c.ranges.across, to_z-of_z c.ranges.along) at c.to_part.ensures) h.sheet h.near },
-        c.requires.1,
-        c.if-cell-k.true,
+        within,
+        (
+          record { sheet = h.sheet; own = moved_own (rw (to_z-of_z c.ranges.across, to_z-of_z c.ranges.along) at c.to_part.ensures) h.sheet h.near },
+          c.requires.1,
+          c.if-cell-k.true,
+        ),
       ),
     )
 
 pub examine-returns-then-cell-k : goal.examine-returns-then-cell-k
-examine-returns-then-cell-k t c S n =
+examine-returns-then-cell-k g t c S n =
     let a = c.args in
     let own = moved_own (rw (to_z-of_z c.ranges.across, to_z-of_z c.ranges.along) at c.to_part.ensures) S n in
     let judged : c.judge-verdict.result ≡ verdict S (mode_of a.mode) a.cell.level a.cell.column a.cell.row = c.judge-verdict.ensures ∙ ap judged_by c.range_on.ensures ∙ own_judged own (mode_of a.mode) in
@@ -87,7 +118,7 @@ examine-returns-then-cell-k t c S n =
     c.cut.ensures S own (sym painted ∙ c.if-colour-eq1.true)
 
 pub examine-returns : goal.examine-returns
-examine-returns t c S n =
+examine-returns g t c S n =
     let a = c.args in
     let own = moved_own (rw (to_z-of_z c.ranges.across, to_z-of_z c.ranges.along) at c.to_part.ensures) S n in
     let judged : c.judge-verdict.result ≡ verdict S (mode_of a.mode) a.cell.level a.cell.column a.cell.row = c.judge-verdict.ensures ∙ ap judged_by c.range_on.ensures ∙ own_judged own (mode_of a.mode) in
@@ -96,5 +127,8 @@ examine-returns t c S n =
       | examine-then-colour-eq1+else-cell-k w ↦ let l = w.if-cell-k.false in omega arith
       | examine-else-colour-eq1 w ↦ absurd (w.if-colour-eq1.false e)
     ] in
-    rw (c.one_cell.ensures, c.bend_of.ensures ∙ ap carried_bend judged)
-    (examined_one (verdict S (mode_of a.mode)) a.k a.cell.level a.cell.column a.cell.row c.colour_of-colour.result _ _ (settled _ _ _ _ _ _ painted whole) c.paint_block.ensures)
+    let s = settled (verdict S (mode_of a.mode)) _ _ _ _ _ painted whole in
+    record {
+      leaves = c.leave.ensures (verdict S (mode_of a.mode)) s;
+      counted = rw (c.one_cell.ensures, c.bend_of.ensures ∙ ap carried_bend judged) (counted_one _ _ _ _ _ _ s);
+    }
