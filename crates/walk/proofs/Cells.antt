@@ -1,17 +1,15 @@
 -- What is seen of a cell, by its own colour: one that is not cut counts for itself, and a cut one for its four parts.
 use mathlib.Core.Path.{◌≡◌, sym, ◌∙◌, ap, subst}
-use mathlib.Core.Bool.{cond, true≢false}
+use mathlib.Core.Bool.{cond}
 use mathlib.Core.List.{List, [], ◌∷◌}
-use Prim.Native.Nat.{ℕ, ◌+◌, ◌*◌, ◌-◌, ◌/◌, ◌^◌, ◌≤◌, ◌<◌}
+use Prim.Native.Nat.{ℕ, ◌+◌, ◌*◌, ◌-◌, ◌≤◌, ◌<◌}
 use native.Mathlib.Omega.{arith}
 use lib.Dec.{eqb}
 use lib.IntN.{ℤ, pos, negsuc, nat_abs}
 use lib.ListN.{length}
 use lib.Pow.{pow-add}
-use Rattle.verdicts.specs.declared.Verdict.{Verdict}
 use Rattle.verdicts.specs.Judging.{carried_bend}
 use Rattle.verdicts.specs.Walking.{Verdicts, colour_of, record_of}
-use Rattle.verdicts.specs.Operational.{visited_from, coloured_from, bend_from, records_from, colour_from}
 use Rattle.verdicts.proofs.Cells.{Opened, clears, opens, kind, levels_below, visited_cleared, visited_last, visited_open, coloured_cleared, coloured_last, coloured_open, bend_cleared, bend_last, bend_open, records_cleared, records_last, colour_cleared, colour_last}
 use Rattle.verdicts.proofs.Bounds.{visited_small, coloured_small}
 use Rattle.page.specs.Scaled.{IsCell}
@@ -30,7 +28,6 @@ use Rattle.cells.specs.Cell.{PartOf}
 use Rattle.cells.specs.declared.cell.Cell.{Cell}
 use Rattle.marks.specs.declared.Seen.{Seen}
 use Rattle.marks.specs.Steps.{one_seen, cut_seen, Few}
-use Rattle.marks.proofs.Leaving.{open_by}
 use Rattle.walk.specs.Steps.{Counted, Settled, OwnForm, NearForm, Owned, Carried}
 
 -- ---- a cell of the colour c that is not cut, with n levels below it

@@ -1,25 +1,17 @@
 -- What a cell that is not cut leaves is what its verdict says: its colour in each of its finest cells, or its one record.
-use mathlib.Core.Path.{◌≡◌, refl, sym, ap, subst}
+use mathlib.Core.Path.{◌≡◌, refl, ap, subst}
 use mathlib.Core.List.{List}
-use Prim.Native.Nat.{ℕ, ◌+◌, ◌-◌, ◌/◌, ◌%◌, ◌^◌, ◌≤◌, ◌<◌}
+use Prim.Native.Nat.{ℕ, ◌+◌, ◌-◌, ◌^◌, ◌≤◌, ◌<◌}
 use native.Mathlib.Nat as Nat
 use native.Mathlib.Omega.{arith}
 use lib.Dec.{lit<}
 use lib.ListN.{length, set}
 use Rattle.algebra.specs.Written.{Written}
 use Rattle.verdicts.specs.Walking.{Verdicts, record_of}
-use Rattle.verdicts.specs.Operational.{records_from, colour_from}
+use Rattle.verdicts.specs.Operational.{records_from}
 use Rattle.verdicts.proofs.Cells.{levels_below}
 use Rattle.marks.specs.declared.Seen.{Seen}
-use Rattle.marks.specs.Steps.{in_block, Block}
-use Rattle.marks.proofs.Blocks.{block_row, block_column}
-use Rattle.marks.proofs.Leaving.{repaint}
-use Rattle.walk.specs.Steps.{Settled, Finest, Leaving, Examined}
-
-pub painted_one : (v : Verdicts) (k level p q c : ℕ) {old now : List ℕ} → Settled v level (k - level) p q c → Block k (k - level) p q c old now → Finest v k level p q old now
-painted_one v k level p q c {old} {now} s h =
-    repaint (in_block k (k - level) p q) (λ i. c) (λ i. colour_from v level (k - level) (i % 2 ^ k) (i / 2 ^ k)) old now
-    (λ i e. sym (s.paints (i % 2 ^ k) (i / 2 ^ k) (block_column k (k - level) p q i e) (block_row k (k - level) p q i e))) h
+use Rattle.walk.specs.Steps.{Settled, Leaving, Examined}
 
 pub written_one : (v : Verdicts) (k level p q at c : ℕ) (old : List ℕ) → Settled v level (k - level) p q c
     → Written (records_from v level (k - level) p q) at old (set old at (record_of c level p q)) (at + 1)
