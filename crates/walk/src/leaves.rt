@@ -1,5 +1,5 @@
 // What a walk leaves of a cell that is not cut, in the place that was lent: its block of bytes in a raster, its record in a listing.
-ghost use Rattle.std.specs.Prelude.{◌≡◌, List, [], ◌∷◌, ℕ, ◌+◌, ◌-◌, ◌*◌, ◌^◌, ◌≤◌, ◌<◌, length};
+ghost use Rattle.std.specs.Prelude.{◌≡◌, [], ◌∷◌, ℕ, ◌+◌, ◌-◌, ◌*◌, ◌^◌, ◌≤◌, ◌<◌, length};
 ghost use Rattle.std.proofs.Common.{◌∙◌, rules};
 ghost use Rattle.algebra.specs.Written.{Written};
 ghost use Rattle.verdicts.specs.Walking.{Verdicts, colour_of};
@@ -16,7 +16,7 @@ pub trait Leaves {
     // It has room for what is left of so many finest cells of a sheet of that depth.
     ghost HasRoom: { ℕ → ℕ → Self → Type 0 };
 
-    // By these verdicts, what is left of the cell at a level, column and row stands in it besides.
+    // It is the same place, and by these verdicts what is left of the cell at a level, column and row stands in it besides.
     ghost Left: { Verdicts → ℕ → ℕ → ℕ → ℕ → Self → Self → Type 0 };
 
     // Leaves a cell of this colour that is not cut.

@@ -44,4 +44,5 @@ returns c =
     let w = c.examine-seen.ensures S (whole_form S a.mode _ none f) in
     let n = counted_whole v a.k c.examine-seen.result w.counted in let l = listing_whole v a.k a.place.now _ _ (room S a.mode _ none) w.leaves.1 in
     let done = listing_done S a.mode a.place.now none n l.0 l.1 in
-    search rules
+    -- the place that was lent ends as the walk left it
+    (done.0, done.1, let place = done.2 in search rules)

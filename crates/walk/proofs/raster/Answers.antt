@@ -43,4 +43,5 @@ returns c =
     let w = c.examine-seen.ensures S (whole_form S a.mode _ none f) in
     let n = counted_whole v a.k c.examine-seen.result w.counted in
     let done = raster_done S a.mode a.place.now none n (raster_whole v a.k a.place.now _ (room S a.mode _ none) w.leaves.1) in
-    search rules
+    -- the place that was lent ends as the walk left it
+    (done.0, done.1, let place = done.2 in search rules)
