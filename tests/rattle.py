@@ -217,7 +217,11 @@ class Reader:
         """The functions in braces, each public where it says so, or all of them as the braces are; what is ghost, or a type of a trait, has no name from outside."""
         while not self.meets("}"):
             (exported, cycle), public = self.attributes(), self.public()
-            if isinstance(self.tokens[self.place][1], tuple) or self.tokens[self.place][1] == "type":
+            word, after = (token for _, token in self.tokens[self.place:self.place + 2])
+            if isinstance(word, tuple) or word == "type" or word == "const" and after != "fn":
+                # a number of a type stands as what the prover makes of it, which is asked for nothing
+                if word == "const":
+                    module.methods.append(Method(path, title, False, Function(module, after, self.line(), [], [], [], False, set(), None)))
                 self.until(";")
                 continue
             self.meets("const")
@@ -257,7 +261,9 @@ class Reader:
             clauses.append(self.next())
         # a trait's function need not have a body
         body = self.until("}") if self.next("{", ";") == "{" else []
+        # what is called, with types in angle brackets or without, and the numbers of types that are read
         called = {word for word, after in zip(body, body[1:]) if after == "(" and re.fullmatch(r"\w+", str(word))}
+        called |= {word for place, word in enumerate(body) if body[place + 1:place + 3] == ["::", "<"]} | {word for word in body if re.fullmatch(r"[A-Z_]+", str(word))}
         return Function(module, name, line, given, answer, clauses, exported, called, cycle)
 
 

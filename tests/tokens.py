@@ -47,6 +47,15 @@ def clauses(text):
     return [(line, token[1]) for line, token in tokens(text) if isinstance(token, tuple)]
 
 
+def asked(text):
+    """The words of all that is required and ensured; none, where the text is not understood."""
+    try:
+        said = [token[1] for _, token in tokens(text) if isinstance(token, tuple) and token[0] != "ghost"]
+    except Unread:
+        said = []
+    return set(re.findall(r"\w+", " ".join(said)))
+
+
 def depths(tokens):
     """How many brackets each token stands in."""
     depth = 0

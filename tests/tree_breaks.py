@@ -170,6 +170,10 @@ BREAKS = {
         (f"{NUMBERS}:6 {RESTS}", (NUMBERS, "{◌≡◌, ◌/◌, ◌≤◌};\n", "{◌≡◌, ◌/◌, ◌≤◌};\nghost use Rattle.page.proofs.Facts.{own_degree};\n"),
          (NUMBERS, "\ntrait Axis {\n    ghost still: { OwnDegree };\n\n    fn moved(n: u64) -> u64;\n}\n"
                    "\nstruct Across;\n\nimpl Axis for Across {\n    ghost still = { λ S. own_degree S };\n\n    fn moved(n: u64) -> u64 {\n        n\n    }\n}\n")),
+        (f"{NUMBERS}:6 {RESTS}", (NUMBERS, "{◌≡◌, ◌/◌, ◌≤◌};\n", "{◌≡◌, ◌/◌, ◌≤◌};\nghost use Rattle.page.proofs.Facts.{own_degree};\n"),
+         (NUMBERS, "\ntrait Axis {\n    fn moved(n: u64) -> u64;\n\n    ghost still: { Type 0 };\n}\n"
+                   "\nstruct Across;\n\nimpl Axis for Across {\n    fn moved(n: u64) -> u64 {\n        n\n    }\n\n    ghost still = { own_degree };\n}\n"
+                   "\nfn same<A: Axis>(n: u64) -> u64\n    ensures { A.still }\n{\n    n\n}\n")),
     ],
 
     # ---- what crates rest on

@@ -36,7 +36,7 @@ fn words_of(answer: Answer) -> [u64; 5] {
             let [a, b, c, d] = values;
             [0, a, b, c, d]
         }
-        Err(NoValues::Refused(refusal)) => [1, u64::from(refusal as u32), 0, 0, 0],
+        Err(NoValues::Refused(refusal)) => [1, u64::from(numbering::number(refusal)), 0, 0, 0],
         Err(NoValues::NoSuchCall) => [2, 0, 0, 0, 0],
     }
 }

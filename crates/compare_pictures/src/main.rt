@@ -58,7 +58,7 @@ fn answer_of(call: Call, k: u32, input: &[u8], place: &mut [u8]) -> Result<usize
 fn shown<W: Write>(to: &mut W, answer: Result<usize, Refusal>, place: &[u8]) -> io::Result<()> {
     let (number, value) = match answer {
         Ok(value) => (0, value),
-        Err(refusal) => (refusal as u32, 0),
+        Err(refusal) => (numbering::number(refusal), 0),
     };
     let mut out = [0; 16];
     put(&mut out, 0, u64::from(number));

@@ -9,7 +9,7 @@ fn signed(number: i32) -> u64 {
 
 fn fault_words(refused: Refused) -> [u64; 3] {
     [
-        u64::from(refused.refusal as u32),
+        u64::from(numbering::number(refused.refusal)),
         u64::from(refused.line),
         u64::from(refused.field),
     ]

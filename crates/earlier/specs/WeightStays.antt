@@ -16,7 +16,7 @@ use Rattle.walk.specs.declared.Records.{Records}
 use Rattle.walk.specs.Promises.{RasterPromise, ListingPromise}
 use Rattle.reading.specs.declared.Sheet.{Sheet as Read}
 use Rattle.reading.specs.declared.Refused.{Refused}
-use Rattle.reading.specs.Answers.{reading_of}
+use Rattle.reading.specs.Answers.{reading_of, states, stated_of}
 use Rattle.reading.specs.Promises.{ReadPromise}
 use Rattle.reply.specs.Promises.{AnswerPromise}
 use Rattle.earlier.specs.Weight.{old_weight, OldAccepted, old_refusal}
@@ -70,7 +70,7 @@ ListingStays = (S : Sheet) (mode : ℕ) (before : List ℕ) (r : Result Records 
 
 -- the same sheet from a text; the same text from the listing program's call, and every byte of the place
 abbrev pub ReadStays : Type 0
-ReadStays = (text : List ℕ) (r : Result Read Refused) → ReadPromise text r → (number_of (old_outcome text) ≡ 6 → ⊥) → r ≡ reading_of (old_outcome text)
+ReadStays = (text : List ℕ) (r : Result Read Refused) → ReadPromise text r → (number_of (old_outcome text) ≡ 6 → ⊥) → (r ≡ reading_of (old_outcome text)) × (states r ≡ stated_of (old_outcome text))
 
 abbrev pub AnswerStays : Type 0
 AnswerStays = (text before : List ℕ) (r : ℕ) (now : List ℕ) → AnswerPromise text before r now → (number_of (old_outcome text) ≡ 6 → ⊥) →

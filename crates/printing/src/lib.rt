@@ -9,7 +9,7 @@ ghost use Rattle.pbm.specs.Writing.{head_text};
 ghost use Rattle.writing.specs.Steps.{Put};
 ghost use Rattle.printing.specs.Promises.{PrintPromise};
 
-use page::Refusal;
+pub use page::Refusal;
 
 const SPACE: u8 = b' ';
 

@@ -7,7 +7,7 @@ mod terms;
 
 ghost use Rattle.reading.specs.Promises.{ReadPromise};
 
-use page::Refusal;
+pub use page::Refusal;
 
 // A sheet as a text gives it, its unused coefficients zero.
 #[derive(Clone, Copy)]

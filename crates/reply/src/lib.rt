@@ -1,16 +1,19 @@
 // The listing of a sheet text, as text, and its picture: what the listing program and the program `picture` write for what they read.
 #![tactic(auto)]
 
+mod answering;
 mod picture;
 
-ghost use Rattle.std.specs.Prelude.{◌≡◌, ◌≤◌, length};
+ghost use Rattle.std.specs.Prelude.{◌≡◌, refl, length};
+ghost use Rattle.std.proofs.Common.{rules};
 ghost use Rattle.page.specs.ListingText.{text_after};
 ghost use Rattle.reply.specs.Answers.{room};
 ghost use Rattle.reply.specs.Promises.{PlacePromise, AnswerPromise};
-ghost use Rattle.reply.specs.Steps.{FromText, ListsRecords, Tells, TellsRefused};
+ghost use Rattle.reply.specs.Steps.{FromText, ListsRecords};
 
+use answering::{Telling, told};
 pub use picture::{PICTURE_ROOM, depict, picture_place};
-use reading::{Refused, Sheet};
+use reading::Sheet;
 use walk::{Records, Refusal};
 
 // Room enough for the listing of any sheet: 16 bytes for each of 16,384 records, and 28 for the total.
@@ -50,27 +53,29 @@ fn list_records(sheet: Sheet, records: &mut [u32]) -> Result<Records, Refusal>
     )
 }
 
-// Writes the listing of an accepted sheet: where its text ends. A sheet that is accepted is refused by no number.
-fn list(sheet: Sheet, place: &mut [u8]) -> usize
-    requires { FromText sheet × (room ≤ length place.old) }
-    ensures { Tells text_after sheet place.old place.new result }
-{
-    let mut records = record_space();
-    match list_records(sheet, &mut records) {
-        Ok(Records { length, seen }) => {
-            writing::write_listing(place, &records[..length], seen.visited, seen.coloured)
-        }
-        Err(refusal) => writing::write_refusal(place, refusal as u32, 0, 0),
-    }
-}
+// What the listing program tells of a sheet. A sheet that is accepted is refused by no number.
+struct Listing;
 
-// Writes the line of a text's refusal: where it ends.
-fn refuse(refused: Refused, place: &mut [u8]) -> usize
-    requires { 41 ≤ length place.old }
-    ensures { TellsRefused refused place.old place.new result }
-{
-    let number = refused.refusal as u32;
-    writing::write_refusal(place, number, refused.line, refused.field)
+impl Telling for Listing {
+    const ROOM: usize = ROOM;
+
+    ghost ROOM = { room };
+
+    ghost told = { text_after };
+
+    fn tell(sheet: Sheet, place: &mut [u8]) -> usize {
+        let mut records = record_space();
+        match list_records(sheet, &mut records) {
+            Ok(Records { length, seen }) => {
+                writing::write_listing(place, &records[..length], seen.visited, seen.coloured)
+            }
+            Err(refusal) => writing::write_refusal(place, numbering::number(refusal), 0, 0),
+        }
+    }
+
+    ghost refusals = { λ n line field. refl };
+
+    ghost roomy = { Prim.search rules };
 }
 
 // Reads a sheet text, lists its sheet, and writes the listing's text or the line of a refusal at the start of the place: how long it is. A
@@ -78,11 +83,5 @@ fn refuse(refused: Refused, place: &mut [u8]) -> usize
 pub fn answer(text: &[u8], place: &mut [u8]) -> usize
     ensures { AnswerPromise text.now place.old result place.new }
 {
-    if place.len() < ROOM {
-        return 0;
-    }
-    match reading::read(text) {
-        Ok(sheet) => list(sheet, place),
-        Err(refused) => refuse(refused, place),
-    }
+    told::<Listing>(text, place)
 }

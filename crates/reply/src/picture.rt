@@ -1,12 +1,12 @@
-// The picture of a sheet text: its raster as a plain PBM, or the line of a refusal. Function by function it is like the listing, beside it: what they have
-// in common are a test of the room and a match, and one function for both would take the rest as a closure, and ask of it what `Tells` says.
-ghost use Rattle.std.specs.Prelude.{◌≡◌, ◌^◌, ◌≤◌, length};
+// The picture of a sheet text: its raster as a plain PBM, or the line of a refusal.
+ghost use Rattle.std.specs.Prelude.{◌≡◌, refl, ◌^◌, ◌≤◌, length};
+ghost use Rattle.std.proofs.Common.{rules};
 ghost use Rattle.pbm.specs.PictureText.{picture_after};
 ghost use Rattle.reply.specs.Answers.{picture_room};
 ghost use Rattle.reply.specs.Promises.{PicturePlacePromise, DepictPromise};
-ghost use Rattle.reply.specs.Steps.{FromText, PaintsRaster, Tells};
+ghost use Rattle.reply.specs.Steps.{FromText, PaintsRaster};
 
-use crate::refuse;
+use crate::answering::{Telling, told};
 use reading::Sheet;
 use walk::{Refusal, Seen};
 
@@ -55,18 +55,29 @@ fn paint(sheet: Sheet, raster: &mut [u8]) -> Result<Seen, Refusal>
     )
 }
 
-// Writes the picture of an accepted sheet: where its text ends. A sheet that is accepted is refused by no number.
-fn draw(sheet: Sheet, place: &mut [u8]) -> usize
-    requires { FromText sheet × (picture_room ≤ length place.old) }
-    ensures { Tells picture_after sheet place.old place.new result }
-{
-    let mut raster = raster_space();
-    let _ = paint(sheet, &mut raster);
-    let count = finest(sheet.k);
-    match printing::write_pbm(sheet.k, &raster[..count], place) {
-        Ok(n) => n,
-        Err(refusal) => writing::write_refusal(place, refusal as u32, 0, 0),
+// What the program `picture` tells of a sheet. A sheet that is accepted is refused by no number.
+struct Picture;
+
+impl Telling for Picture {
+    const ROOM: usize = PICTURE_ROOM;
+
+    ghost ROOM = { picture_room };
+
+    ghost told = { picture_after };
+
+    fn tell(sheet: Sheet, place: &mut [u8]) -> usize {
+        let mut raster = raster_space();
+        let _ = paint(sheet, &mut raster);
+        let count = finest(sheet.k);
+        match printing::write_pbm(sheet.k, &raster[..count], place) {
+            Ok(n) => n,
+            Err(refusal) => writing::write_refusal(place, numbering::number(refusal), 0, 0),
+        }
     }
+
+    ghost refusals = { λ n line field. refl };
+
+    ghost roomy = { Prim.search rules };
 }
 
 // Reads a sheet text, paints its raster, and writes the picture or the line of a refusal at the start of the place: how long it is. A place that has
@@ -74,11 +85,5 @@ fn draw(sheet: Sheet, place: &mut [u8]) -> usize
 pub fn depict(text: &[u8], place: &mut [u8]) -> usize
     ensures { DepictPromise text.now place.old result place.new }
 {
-    if place.len() < PICTURE_ROOM {
-        return 0;
-    }
-    match reading::read(text) {
-        Ok(sheet) => draw(sheet, place),
-        Err(refused) => refuse(refused, place),
-    }
+    told::<Picture>(text, place)
 }

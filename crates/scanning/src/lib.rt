@@ -9,7 +9,7 @@ ghost use Rattle.scanning.specs.Promises.{ScanPromise};
 ghost use Rattle.scanning.specs.Steps.{depth_at, PictureFound};
 
 use header::Head;
-use page::Refusal;
+pub use page::Refusal;
 
 // The sizes of a plain PBM, one above 2^63 told as 2^63, and where its digits begin, if the text is one.
 fn picture_in(text: &[u8]) -> Option<Head>

@@ -1,5 +1,5 @@
 -- What one read more puts behind what was read is what came next.
-use Rattle.std.proofs.Common.{◌≡◌, ◌≤◌, ◌+◌, ◌-◌, drop, length, ℕ, List, ◌++◌, take, rules, sym, ap, ◌∙◌, subst, drop_at, length-take-le, le_refl}
+use Rattle.std.proofs.Common.{◌≡◌, ◌≤◌, ◌+◌, ◌-◌, drop, length, ℕ, List, ◌++◌, take, rules, sym, ap, ◌∙◌, subst, drop_at, length-take-le, le_refl, arith}
 use Rattle.std.proofs.Math.Seq.{take-add, take-append-le}
 use Rattle.std.proofs.lemmas.Slice.{take-put_mid_below}
 use Rattle.std.proofs.KnownBytes.{Consumes-trans}
@@ -17,3 +17,7 @@ pub loop-at-preserved : goal.loop-at-preserved
 loop-at-preserved g c =
     let more = put_behind c.loop-at.at (length c.loop-at.place - c.loop-at.at) c.in_ok-n.n c.loop-at.place c.read.new.buf c.loop-at.invariant.0 (search rules) in
     (search rules, subst (Consumes _ _) more (Consumes-trans _ _ _ _ _ c.loop-at.invariant.1 c.in_ok-n.ensures.bytes.0))
+
+-- each turn fills more of the place
+pub loop-at-smaller : goal.loop-at-smaller
+loop-at-smaller g c = omega arith

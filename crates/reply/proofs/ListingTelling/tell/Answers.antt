@@ -1,9 +1,9 @@
--- `reply::list` meets its contract: the records are those of the listing, and their lines the page's text.
+-- `reply::Listing` tells of a sheet: the records are those of the listing, and their lines the page's text.
 use Rattle.std.proofs.Common.{sym}
 use native.Mathlib.Nat as Nat
 use lib.Seq.{length-take-le}
 use Rattle.reply.proofs.Telling.{within, room_for, lists, not_refused}
-use Rattle.reply.proofs.list.Goals as goal
+use Rattle.reply.proofs.ListingTelling.tell.Goals as goal
 
 pub slice_bounds-records-end : goal.slice_bounds-records-end
 slice_bounds-records-end c =
@@ -24,6 +24,6 @@ pub returns-in-Ok : goal.returns-in-Ok
 returns-in-Ok c w passed read =
     lists w passed c.record_space-records.result (sym c.record_space-records.ensures) (c.list_records.ensures w passed read) c.in-Ok.is c.write_listing.ensures
 
-pub returns-after-refusal : goal.returns-after-refusal
-returns-after-refusal c w passed read =
+pub returns-in-Err : goal.returns-in-Err
+returns-in-Err c w passed read =
     absurd (not_refused w passed c.record_space-records.result (sym c.record_space-records.ensures) (c.list_records.ensures w passed read) c.in-Err.is)
