@@ -15,7 +15,7 @@ sys.dont_write_bytecode = True  # nothing is left in the tree
 from moved_tree import AREA, BASE, FACTS, INNER, LIB, MAIN, PROMISES, PROOF, PROOFS, ROOM, SHOWN, SIZES, edited, exchanged
 
 ROOT = pathlib.Path(__file__).resolve().parent.parent
-SCRIPT = "bench/moved", "bench/paired.py", "bench/declared.py", "bench/calls.py", "bench/cost", "tests/sources.py", "tests/rattle.py", "tests/faces.py"
+SCRIPT = "bench/moved", "bench/paired.py", "bench/declared.py", "bench/calls.py", "bench/cost", "tests/sources.py", "tests/tokens.py", "tests/rattle.py", "tests/faces.py"
 
 # the row of a tree in which nothing changed
 ALONE = {"definitions": "=11", "statements": "=2", "contracts": "=4", "proofs": "=5", "functions": "=7", "lines": "+0 −0"}
