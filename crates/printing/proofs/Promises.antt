@@ -1,8 +1,7 @@
 -- The promise of `write_pbm`: what an answer states is the request's number and count, and no second outcome satisfies it.
 use mathlib.Core.Path.{◌≡◌, refl, sym, ◌∙◌, ap}
 use mathlib.Core.List.{List}
-use Prim.Native.Nat.{ℕ, zero, suc}
-use native.Mathlib.Omega.{arith}
+use Prim.Native.Nat.{ℕ}
 use lib.ListN.{length}
 use Rattle.std.proofs.Common.{Result, Ok, Err}
 use Rattle.std.specs.Result.{IsErrAnd}
@@ -10,7 +9,7 @@ use Rattle.page.specs.declared.Refusal.{Refusal}
 use Rattle.page.specs.Numbers.{by_number, passed}
 use Rattle.page.proofs.Rows.{unless_ap, unless_refused, unless_none}
 use Rattle.page.proofs.Numbers.{Names, first_names, unless_named}
-use Rattle.page.proofs.Refused.{handed_up}
+use Rattle.page.proofs.Refused.{refused_same, refused_some}
 use Rattle.pbm.specs.Writing.{picture_text}
 use Rattle.pbm.specs.Refusals.{write_table, write_refusal}
 use Rattle.writing.specs.Steps.{Put}
@@ -27,18 +26,11 @@ named k r n = first_names (write_table k r n) (refl, (refl, tt))
 abbrev refuses : ℕ → Result ℕ Refusal
 refuses n = Err (by_number n)
 
-abbrev refuse : Refusal → Result ℕ Refusal
-refuse e = Err e
-
 abbrev answers : ℕ → Result ℕ Refusal
 answers n = Ok n
 
 abbrev refused_by : ℕ → Counted
 refused_by n = record { number = n; bytes = 0 }
-
-by_row : (m : ℕ) {e : Refusal} → passed m ≡ Err e → (m ≡ 0 → ⊥) × (e ≡ by_number m)
-by_row zero f = absurd (cc)
-by_row (suc m) f = (λ z. omega arith, cc)
 
 module _ (k : ℕ) (raster old : List ℕ) where
   -- it is kept by the definition's answer and place
@@ -52,8 +44,8 @@ module _ (k : ℕ) (raster old : List ℕ) where
   pub print_refused : {r : Result ℕ Refusal} {e : Refusal} → IsErrAnd r (λ x. x ≡ e) → passed (write_refusal k (length raster) (length old)) ≡ Err e → PrintPromise k raster old r old
   unfolding printed printed_place
   print_refused {r} {e} u f =
-      let h = by_row (write_refusal k (length raster) (length old)) f in
-      kept (handed_up r e u ∙ ap refuse h.1 ∙ unless_refused refuses _ _ h.0) (unless_refused (λ n. old) _ _ h.0)
+      let n : ℕ = write_refusal k (length raster) (length old) in
+      kept (refused_same tt _ r n f u) (unless_refused (λ n. old) _ n (refused_some tt n f))
 
   -- where none does: the text is put at the beginning
   pub print_done : {r : ℕ} {now : List ℕ} → write_refusal k (length raster) (length old) ≡ 0 → Put 0 (picture_text k raster) old now r → PrintPromise k raster old (Ok r) now
