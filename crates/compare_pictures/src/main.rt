@@ -7,6 +7,8 @@
 // `reply::picture_place` makes: all of it is written, and nothing else. The program ends where the input does.
 #![tactic(auto)]
 
+ghost use Rattle.std.specs.Prelude.{◌≡◌, length};
+
 use page::Refusal;
 use std::io;
 use std::io::{Read, Write};
@@ -54,6 +56,18 @@ fn answer_of(call: Call, k: u32, input: &[u8], place: &mut [u8]) -> Result<usize
     }
 }
 
+// Where a raster or a text is held, and where the place that is lent.
+fn space() -> [u8; LONGEST]
+    ensures { 65600 ≡ length result }
+{
+    [0; LONGEST]
+}
+
+// Writes the place that `reply::picture_place` makes. A function of its own: in `one_item` the place would be made anew for every item, whether it asks for it or not.
+fn made<W: Write>(to: &mut W) -> io::Result<()> {
+    to.write_all(&reply::picture_place())
+}
+
 // Writes an answer, after the number of a refusal, or 0; and the place.
 fn shown<W: Write>(to: &mut W, answer: Result<usize, Refusal>, place: &[u8]) -> io::Result<()> {
     let (number, value) = match answer {
@@ -79,7 +93,7 @@ fn one_item<R: Read, W: Write>(
     let mut head = [0; 28];
     from.read_exact(&mut head)?;
     if items::at(&head, CALL) == MADE {
-        return to.write_all(&reply::picture_place());
+        return made(to);
     }
     let n = items::within(&head, INPUT, text.len());
     let entries = items::within(&head, PLACE, place.len());
@@ -94,8 +108,8 @@ fn one_item<R: Read, W: Write>(
 
 // A proved loop has to end, and nothing says that the input does: the items are counted up to a number that no run comes to.
 fn main(rt: HostRuntime) {
-    let mut text = [0; LONGEST];
-    let mut place = [0; LONGEST];
+    let mut text = space();
+    let mut place = space();
     for _ in 0..u64::MAX {
         if one_item(&mut rt.stdin(), &mut rt.stdout(), &mut text, &mut place).is_err() {
             break;

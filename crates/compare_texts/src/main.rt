@@ -11,6 +11,8 @@
 
 mod sheet;
 
+ghost use Rattle.std.specs.Prelude.{◌≡◌, length};
+
 use std::io;
 use std::io::{Read, Write};
 
@@ -32,6 +34,25 @@ const LAST: usize = 6;
 
 // The first number of an item that asks for what `reply::place` makes.
 const MADE: usize = 4_294_967_295;
+
+// Where a text is held.
+fn text_space() -> [u8; LONGEST]
+    ensures { 262144 ≡ length result }
+{
+    [0; LONGEST]
+}
+
+// Where the place is held that is lent.
+fn place_space() -> [u8; ENTRIES]
+    ensures { 262208 ≡ length result }
+{
+    [0; ENTRIES]
+}
+
+// Writes the place that `reply::place` makes. A function of its own: in `one_item` the place would be made anew for every item, whether it asks for it or not.
+fn made<W: Write>(to: &mut W) -> io::Result<()> {
+    to.write_all(&reply::place())
+}
 
 // Writes what comes of a text, and the first and the last entries of the place.
 fn answered<W: Write>(
@@ -61,7 +82,7 @@ fn one_item<R: Read, W: Write>(
     let mut head = [0; 28];
     from.read_exact(&mut head)?;
     if items::at(&head, TEXT) == MADE {
-        return to.write_all(&reply::place());
+        return made(to);
     }
     let n = items::within(&head, TEXT, text.len());
     let entries = items::within(&head, PLACE, place.len());
@@ -74,8 +95,8 @@ fn one_item<R: Read, W: Write>(
 
 // A proved loop has to end, and nothing says that the input does: the items are counted up to a number that no run comes to.
 fn main(rt: HostRuntime) {
-    let mut text = [0; LONGEST];
-    let mut place = [0; ENTRIES];
+    let mut text = text_space();
+    let mut place = place_space();
     for _ in 0..u64::MAX {
         if one_item(&mut rt.stdin(), &mut rt.stdout(), &mut text, &mut place).is_err() {
             break;

@@ -26,19 +26,29 @@ fn head_words(sheet: Sheet) -> [u64; 6] {
     ]
 }
 
-pub fn words_of(answer: Result<Sheet, Refused>, last: u64) -> [u8; 440] {
-    let (fault, head, coefficients) = match answer {
-        Ok(sheet) => ([0; 3], head_words(sheet), sheet.coefficients.map(signed)),
-        Err(refused) => (fault_words(refused), [0; 6], [0; 45]),
-    };
-    let words = fault
-        .into_iter()
-        .chain(head)
-        .chain(coefficients)
-        .chain([last]);
-    let mut out = [0; 440];
-    for (eight, word) in out.chunks_exact_mut(8).zip(words) {
-        eight.copy_from_slice(&word.to_le_bytes());
+// Numbers one after the other, as long as there is room.
+fn put_numbers(out: &mut [u8], numbers: &[u64]) {
+    for (eight, number) in out.chunks_exact_mut(8).zip(numbers) {
+        eight.copy_from_slice(&number.to_le_bytes());
     }
+}
+
+fn put_coefficients(out: &mut [u8], coefficients: &[i32]) {
+    for (eight, &number) in out.chunks_exact_mut(8).zip(coefficients) {
+        eight.copy_from_slice(&signed(number).to_le_bytes());
+    }
+}
+
+// The words are put where they stand: rows of them that are handed on by value, and chained, take several times as long.
+pub fn words_of(answer: Result<Sheet, Refused>, last: u64) -> [u8; 440] {
+    let mut out = [0; 440];
+    match answer {
+        Ok(sheet) => {
+            put_numbers(&mut out[24..72], &head_words(sheet));
+            put_coefficients(&mut out[72..432], &sheet.coefficients);
+        }
+        Err(refused) => put_numbers(&mut out[..24], &fault_words(refused)),
+    }
+    put_numbers(&mut out[432..], &[last]);
     out
 }
