@@ -24,9 +24,10 @@ fn with_digit<const CEILING: u64>(n: u64, byte: u8) -> u64
     requires { (48 ≤ byte) × (byte ≤ 57) }
     ensures { result ≡ min (10 * n + (byte - 48)) CEILING }
 {
-    n.saturating_mul(10)
-        .saturating_add(u64::from(byte - b'0'))
-        .min(CEILING)
+    if CEILING / 10 < n {
+        return CEILING;
+    }
+    (10 * n).saturating_add(u64::from(byte - b'0')).min(CEILING)
 }
 
 // The number that the digits write, but not above the ceiling.
