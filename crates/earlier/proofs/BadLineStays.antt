@@ -15,7 +15,6 @@ use Rattle.page.proofs.ReadFacts.{read_never}
 use Rattle.page.proofs.TextWalk.{fault_numbered}
 use Rattle.page.proofs.TextFaults.{fault_placed}
 use Rattle.reading.specs.Answers.{reading_of, reading, stated_of, stated}
-use Rattle.reading.proofs.Facts.{reading_states}
 use Rattle.earlier.specs.BadLine.{TenNumbers, ten_bad, ten_good, with_first, ten_numbers, ten_after_letter, is_admitted, ten_term_numbers, TenText, ten_bad_line, ten_with_line, ten_line_then, ten_terms_from, ten_text_of, ten_refused, ten_accepted, ten_outcome_of, ten_outcome}
 use Rattle.earlier.specs.BadLineStays.{line_as_ten, SameLine, when_admitted, SameTerm, text_as_ten, SameText, as_ten, SameOutcome, SheetSame, AcceptedBefore, RefusedSame, RefusalSame}
 
@@ -262,15 +261,15 @@ sheet_by (accepted v) w e = let z : v ≡ w = cc in ap accepted z
 
 pub sheet_same : SheetSame
 unfolding reading
-sheet_same text r w h e = h ∙ ap reading_of (sheet_by (outcome text) w (sym e ∙ same_outcome text))
+sheet_same text r w h e = h.0 ∙ ap reading_of (sheet_by (outcome text) w (sym e ∙ same_outcome text))
 
 pub accepted_before : AcceptedBefore
 unfolding reading stated
-accepted_before text r h z = by (outcome text) refl (sym (ap (λ r. r.refusal) (reading_states text r h)) ∙ z)
+accepted_before text r h z = by (outcome text) refl (sym (ap (λ r. r.refusal) h.1) ∙ z)
   where
     by : (o : Outcome) → outcome text ≡ o → (stated_of o).refusal ≡ 0 → (w : Said) × (ten_outcome text ≡ ten_accepted w) × (r ≡ reading_of (accepted w))
     by (refused n line field) e z = absurd ((read_never text n line field e).not_0 z)
-    by (accepted w) e z = (w, same_outcome text ∙ ap as_ten e, h ∙ ap reading_of e)
+    by (accepted w) e z = (w, same_outcome text ∙ ap as_ten e, h.0 ∙ ap reading_of e)
 
 refused_by : (text : List ℕ) (o : Outcome) (n line : ℕ) → outcome text ≡ o → ten_refused n line ≡ as_ten o → RefusedSame n line (stated_of o)
 refused_by text (accepted v) n line h e = let z : ◌≡◌ {A = ℕ} 0 1 = cc in absurd (omega arith)
@@ -282,4 +281,4 @@ refused_by text (refused m at field) n line h e = by (leb 14 m) refl (let z : n 
 
 pub refusal_same : RefusalSame
 unfolding stated
-refusal_same text r n line h e = rw (reading_states text r h) (refused_by text (outcome text) n line refl (sym e ∙ same_outcome text))
+refusal_same text r n line h e = rw h.1 (refused_by text (outcome text) n line refl (sym e ∙ same_outcome text))

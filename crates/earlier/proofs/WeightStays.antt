@@ -26,7 +26,6 @@ use Rattle.page.proofs.Rows.{unless_number}
 use Rattle.probe.specs.Answers.{checked, valued, bounded}
 use Rattle.walk.specs.Answers.{tallied, rastered, listed, recorded}
 use Rattle.reading.specs.Answers.{reading_of, reading, stated_of, stated}
-use Rattle.reading.proofs.Facts.{reading_states}
 use Rattle.reply.specs.Answers.{room, length_with, place_with}
 use Rattle.earlier.specs.Weight.{old_R, old_weight, old_spare, old_refusal}
 use Rattle.earlier.specs.WeightAnswers.{old_outcome_of, old_outcome}
@@ -116,7 +115,7 @@ outcome_stays text n = outcome_of_stays (ltb 8_192 (length text)) (text_of (line
 
 pub read_stays : ReadStays
 unfolding reading stated
-read_stays text r h n = let o = outcome_stays text n in (h ∙ ap reading_of o, reading_states text r h ∙ ap stated_of o)
+read_stays text r h n = let o = outcome_stays text n in (h.0 ∙ ap reading_of o, h.1 ∙ ap stated_of o)
 
 pub answer_stays : AnswerStays
 unfolding written_text length_with place_with

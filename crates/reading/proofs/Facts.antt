@@ -57,11 +57,11 @@ number_is (accepted w) = refl
 
 pub reading_number : ReadingNumber
 unfolding stated
-reading_number text r h = ap (λ x. x.refusal) (reading_states text r h) ∙ number_is (outcome text) ∙ read_table text
+reading_number text r h = ap (λ x. x.refusal) h.1 ∙ number_is (outcome text) ∙ read_table text
 
 pub reading_zeros : ReadingZeros
 unfolding stated
-reading_zeros text r h = rw (reading_states text r h) (by (outcome text))
+reading_zeros text r h = rw h.1 (by (outcome text))
   where
     by : (o : Outcome) → let r : Stated = stated_of o in (r.refusal ≡ 0 → ⊥) →
         r ≡ record { refusal = r.refusal; line = r.line; field = r.field; d = 0; x = pos 0; y = pos 0; s = 0; k = 0; mode = 0; coefficients = replicate 45 (pos 0) }
@@ -70,7 +70,7 @@ reading_zeros text r h = rw (reading_states text r h) (by (outcome text))
 
 pub reading_line : ReadingLine
 unfolding stated
-reading_line text r h = rw (reading_states text r h) (by (outcome text) refl)
+reading_line text r h = rw h.1 (by (outcome text) refl)
   where
     by : (o : Outcome) → outcome text ≡ o → let r : Stated = stated_of o in (14 ≤ r.refusal → 1 ≤ r.line) × (r.refusal ≤ 11 → (r.line ≡ 0) × (r.field ≡ 0)) × (r.refusal ≡ 10 → ⊥)
     by (refused n line field) e = let t = read_never text n line field e in (t.counted, t.lineless, λ z. t.not_between (omega arith) (omega arith))
@@ -80,7 +80,7 @@ reading_line text r h = rw (reading_states text r h) (by (outcome text) refl)
 pub reading_field : ReadingField
 unfolding stated outcome
 reading_field text r h =
-    let s = reading_states text r h in let c = (reading_line text r h).0 in
+    let s = h.1 in let c = (reading_line text r h).0 in
     rw s (by (ltb 8_192 (length text)) (text_of (lines text)) refl (rw s at c))
   where
     lineless : (n : ℕ) (w : Said) → (stated_of (unless n (λ n. refused n 0 0) (accepted w))).line ≡ 0
@@ -95,6 +95,6 @@ reading_field text r h =
 
 pub reading_sheet : ReadingSheet
 unfolding stated
-reading_sheet text r w h e = rw (reading_states text r h ∙ ap stated_of e) (
+reading_sheet text r w h e = rw (h.1 ∙ ap stated_of e) (
     let xs = (sheet_in w).coefficients in let zs : List ℤ = replicate (45 - count w.d) (pos 0) in
     (rw (as_many_coefficients w) at (take-append_seam xs zs), rw (as_many_coefficients w) at (drop-append_seam xs zs)))

@@ -17,23 +17,28 @@ use Rattle.reading.specs.declared.Refused.{Refused}
 use Rattle.reading.specs.declared.Sheet.{Sheet}
 use Rattle.reading.specs.Answers.{reading_of, reading}
 use Rattle.reading.specs.Promises.{ReadPromise, OneReading}
+use Rattle.reading.proofs.Facts.{reading_states}
 use Rattle.reading.specs.Steps.{refused_text, bad_at, said_by, HeadGood, TermsTold, Judged}
 
 pub one_reading : OneReading
-one_reading text r t p q = p ∙ sym q
+one_reading text r t p q = p.0 ∙ sym q.0
 
 module _ (text : List ℕ) where
+  -- the definition's answer states the page's numbers
+  keeps : {r : Result Sheet Refused} → r ≡ reading text → ReadPromise text r
+  keeps {r} e = (e, reading_states text r e)
+
   -- 11 is tried before 14 to 20
   pub too_long : 8_192 < length text → {e : Refused} → e ≡ refused_text Refusal.Text → ReadPromise text (Err e)
   unfolding outcome reading
   too_long h e =
       let l : ltb 8_192 (length text) ≡ true = lt-ltb 8_192 (length text) h in
-      ap Err e ∙ ap (λ q. Err (refused_text q)) (sym (named_by_number Refusal.Text)) ∙ rw l
+      keeps (ap Err e ∙ ap (λ q. Err (refused_text q)) (sym (named_by_number Refusal.Text)) ∙ rw l)
 
   module _ (short : length text ≤ 8_192) where
     by_text : (t : Text) → text_of (lines text) ≡ t → {r : Result Sheet Refused} → r ≡ reading_of (outcome_of t) → ReadPromise text r
     unfolding outcome reading
-    by_text t f e = let l : ltb 8_192 (length text) ≡ false = le-ltb 8_192 (length text) short in e ∙ rw (l, f)
+    by_text t f e = let l : ltb 8_192 (length text) ≡ false = le-ltb 8_192 (length text) short in keeps (e ∙ rw (l, f))
 
     -- a bad line, by its own refusal
     pub bad_text : {e : Refused} → text_of (lines text) ≡ bad_at e → ReadPromise text (Err e)

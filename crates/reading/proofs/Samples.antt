@@ -13,7 +13,7 @@ use Rattle.page.proofs.TextSamples.{whole_in}
 use Rattle.std.specs.Prelude.{Ok, Err}
 use Rattle.page.specs.declared.Refusal.TheVariants.{Degree, Letter, Written}
 use Rattle.page.specs.Numbers.{by_number}
-use Rattle.reading.specs.Answers.{reading, stated}
+use Rattle.reading.specs.Answers.{reading, states, stated}
 
 answers :
     (reading whole_in ≡ Ok (record { d = 1; x = pos 0; y = pos 0; s = 0; k = 1; mode = 0; coefficients = pos 0 ∷ negsuc 0 ∷ pos 1 ∷ replicate 42 (pos 0) }))
@@ -31,3 +31,8 @@ numbers_stated :
     × (stated [] ≡ record { refusal = 14; line = 1; field = 0; d = 0; x = pos 0; y = pos 0; s = 0; k = 0; mode = 0; coefficients = replicate 45 (pos 0) })
 unfolding sumℕ run span ◌⋯◌ row_start weight table first lines fields all_digits amount line_numbers term_numbers terms_from text_of in_order flat_map outcome stated
 numbers_stated = (refl, refl)
+
+-- and so does the answer itself state them
+refusal_stated : states (reading []) ≡ record { refusal = 14; line = 1; field = 0; d = 0; x = pos 0; y = pos 0; s = 0; k = 0; mode = 0; coefficients = replicate 45 (pos 0) }
+unfolding sumℕ run span ◌⋯◌ row_start weight table first lines fields all_digits amount line_numbers term_numbers terms_from text_of in_order flat_map outcome by_number reading
+refusal_stated = refl

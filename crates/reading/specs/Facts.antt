@@ -9,16 +9,16 @@ use Rattle.page.specs.ReadFacts.{text_table}
 use Rattle.page.specs.FaultFacts.{FaultAt}
 use Rattle.reading.specs.declared.Sheet.{Sheet}
 use Rattle.reading.specs.declared.Refused.{Refused}
-use Rattle.reading.specs.Answers.{states, stated}
+use Rattle.reading.specs.Answers.{reading, states, stated}
 use Rattle.reading.specs.Promises.{ReadPromise}
 
 -- every number that reading a text gives, 11, 14 to 20 and those of the table, names a refusal with that number
 abbrev pub ReadingNamed : Type 0
 ReadingNamed = (text : List ℕ) (n line field : ℕ) → outcome text ≡ refused n line field → number_of (by_number n) ≡ n
 
--- so the answer states the page's numbers, all of them
+-- so the answer of the definition states the page's numbers, all of them, which the promise says beside it
 abbrev pub ReadingStates : Type 0
-ReadingStates = (text : List ℕ) (r : Result Sheet Refused) → ReadPromise text r → states r ≡ stated text
+ReadingStates = (text : List ℕ) (r : Result Sheet Refused) → r ≡ reading text → states r ≡ stated text
 
 -- the number is that of the first row that holds, 11 and then 14 to 20 before the rest
 abbrev pub ReadingNumber : Type 0

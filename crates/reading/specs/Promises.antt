@@ -2,11 +2,11 @@
 use Rattle.std.specs.Prelude.{◌≡◌, List, ℕ, Result}
 use Rattle.reading.specs.declared.Sheet.{Sheet}
 use Rattle.reading.specs.declared.Refused.{Refused}
-use Rattle.reading.specs.Answers.{reading}
+use Rattle.reading.specs.Answers.{reading, states, stated}
 
--- the answer is that of the definition, with every number in it
+-- the answer is that of the definition, with every number in it; and the numbers that it states are the page's
 abbrev pub ReadPromise : List ℕ → Result Sheet Refused → Type 0
-ReadPromise text r = r ≡ reading text
+ReadPromise text r = (r ≡ reading text) × (states r ≡ stated text)
 
 -- no second answer satisfies it
 abbrev pub OneReading : Type 0

@@ -54,13 +54,13 @@ module _ (text : List ℕ) {sheet : Sheet} (e : ReadPromise text (Ok sheet)) whe
 
   pub from_text : FromText sheet
   unfolding reading
-  from_text = from_outcome (outcome text) (kept text) e
+  from_text = from_outcome (outcome text) (kept text) e.0
 
 -- ---- what is told of a text: of a refusal its line, of an accepted one what is told of its sheet
 module _ (told : Outcome → List ℕ) (refusals : (n line field : ℕ) → told (refused n line field) ≡ refused_line n line field) {old now : List ℕ} {r : ℕ} (text : List ℕ) where
   pub accepted_text : {sheet : Sheet} → ReadPromise text (Ok sheet) → Tells told sheet old now r → Put 0 (told (outcome text)) old now r
   unfolding reading
-  accepted_text {sheet} e f = by (outcome text) (kept text) e
+  accepted_text {sheet} e f = by (outcome text) (kept text) e.0
     where
       by : (o : Outcome) → Kept o → Ok sheet ≡ reading_of o → Put 0 (told o) old now r
       by (refused n line field) k q = absurd (cc)
@@ -68,7 +68,7 @@ module _ (told : Outcome → List ℕ) (refusals : (n line field : ℕ) → told
 
   pub refused_text : {e : Refused} → ReadPromise text (Err e) → TellsRefused e old now r → Put 0 (told (outcome text)) old now r
   unfolding reading
-  refused_text {e} p q = by (outcome text) refl p
+  refused_text {e} p q = by (outcome text) refl p.0
     where
       by : (o : Outcome) → outcome text ≡ o → Err e ≡ reading_of o → Put 0 (told o) old now r
       by (refused n line field) f g =
