@@ -98,6 +98,7 @@ module _ (text : List ℕ) (at : ℕ) {r : Option ℕ} (e : r ≡ told (position
       let t = told_some e s in let l = length-drop at text in
       record {
         step = λ rest. comment_to (drop at text) rest ∙ rw (lt-ltb (position_or_len ends_comment (drop at text)) (length (drop at text)) t.1, t.0, drop-drop (n + 1) at text) (let a : at + (n + 1) ≡ at + n + 1 = omega arith in ap (λ k. rest (drop k text)) a);
+        further = omega arith;
         within = omega arith;
       }
 

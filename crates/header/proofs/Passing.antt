@@ -81,4 +81,4 @@ module _ (text : List ℕ) (at : ℕ) (h : at < length text) (e : get_or (take (
   opened_unended n rest = hash_opens text at h e rest ∙ n rest
 
   pub opened_comment : {end : ℕ} → CommentEnds text (at + 1) end → OpenedTo text at (end + 1)
-  opened_comment d = record { step = λ rest. hash_opens text at h e rest ∙ d.step rest; within = omega (arith, d.within) }
+  opened_comment d = record { step = λ rest. hash_opens text at h e rest ∙ d.step rest; further = omega (arith, d.further); within = omega (arith, d.within) }

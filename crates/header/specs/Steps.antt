@@ -23,6 +23,7 @@ pub record DigitsPassed (text : List ℕ) (at r : ℕ) : Type 0 where
 -- ---- `comment_end`: whatever is done with what follows the LF or CR; and where there is none, nothing is
 pub record CommentEnds (text : List ℕ) (at r : ℕ) : Type 0 where
   pub step : (rest : List ℕ → Found) → after_comment (drop at text) rest ≡ rest (drop (r + 1) text)
+  pub further : at ≤ r
   pub within : r < length text
 
 abbrev pub CommentPassed : List ℕ → ℕ → Option ℕ → Type 0
@@ -32,6 +33,7 @@ CommentPassed text at (Some r) = CommentEnds text at r
 -- ---- `opening_end`
 pub record OpenedTo (text : List ℕ) (at r : ℕ) : Type 0 where
   pub step : (rest : List ℕ → Found) → opening_then (drop at text) rest ≡ rest (drop r text)
+  pub further : at < r
   pub within : r ≤ length text
 
 abbrev pub Opened : List ℕ → ℕ → Option ℕ → Type 0
