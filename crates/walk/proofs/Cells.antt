@@ -2,7 +2,7 @@
 use mathlib.Core.Path.{◌≡◌, sym, ◌∙◌, ap, subst}
 use mathlib.Core.Bool.{cond}
 use mathlib.Core.List.{List, [], ◌∷◌}
-use Prim.Native.Nat.{ℕ, ◌+◌, ◌*◌, ◌-◌, ◌≤◌, ◌<◌}
+use Prim.Native.Nat.{ℕ, zero, suc, ◌+◌, ◌*◌, ◌-◌, ◌≤◌, ◌<◌}
 use native.Mathlib.Omega.{arith}
 use lib.Dec.{eqb}
 use lib.IntN.{ℤ, pos, negsuc, nat_abs}
@@ -118,6 +118,11 @@ carried_part {form} {places} {k} {level} {p} {q} {s} {z} {r} {t} S l x y i o f h
       near = part_near S level p q above x y (part_on_grid S.k level p q above f.own.cell r t i o) f.own (subst (λ n. Halved n form.places places) f.degree h);
     }
 
+-- the form is moved by -1 or 1 in a variable, as the part lies
+abbrev pub side : ℕ → ℤ
+side zero = negsuc 0
+side (suc n) = pos 1
+
 -- each of the four is so, by its own level, column and row
 module _ {form : Form} {places : List ℤ} {k : ℕ} {cell part : Cell} (S : Sheet) (l : cell.level < k) (f : OwnForm S form k cell.level cell.column cell.row) (h : Halved form.degree form.places places) where
   pub lower_left : PartOf cell 0 0 part → NearForm S (record { degree = form.degree; places = places }) (negsuc 0) (negsuc 0) k part.level part.column part.row
@@ -137,3 +142,12 @@ module _ {form : Form} {places : List ℤ} {k : ℕ} {cell part : Cell} (S : She
 
   pub upper_right : PartOf cell 1 1 part → NearForm S (record { degree = form.degree; places = places }) (pos 1) (pos 1) k part.level part.column part.row
   upper_right o = rw (o.level, o.column, o.row) (carried_part S l (right cell.column) (right cell.row) (omega arith) (omega arith) f h)
+
+  -- whichever of the four it is
+  pub near_by : {right above : ℕ} → PartOf cell right above part → right ≤ 1 → above ≤ 1 → NearForm S (record { degree = form.degree; places = places }) (side right) (side above) k part.level part.column part.row
+  near_by {right = zero} {above = zero} o i j = lower_left o
+  near_by {right = suc zero} {above = zero} o i j = lower_right o
+  near_by {right = zero} {above = suc zero} o i j = upper_left o
+  near_by {right = suc zero} {above = suc zero} o i j = upper_right o
+  near_by {right = suc (suc n)} o i j = absurd (omega arith)
+  near_by {above = suc (suc n)} o i j = absurd (omega arith)

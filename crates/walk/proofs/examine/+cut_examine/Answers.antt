@@ -10,7 +10,7 @@ use Rattle.verdicts.specs.Walking.{colour_of}
 use Rattle.page.specs.Bounds.{verdict}
 use Rattle.local.specs.Range.{judged_by}
 use Rattle.marks.proofs.Leaving.{open_by}
-use Rattle.walk.proofs.Cells.{settled, counted_one, counted_cut, few, depth_small, moved_own, own_light, own_judged, lower_left, lower_right, upper_left, upper_right}
+use Rattle.walk.proofs.Cells.{settled, counted_one, counted_cut, few, depth_small, moved_own, own_light, own_judged, near_by}
 use Rattle.walk.proofs.Leaving.{examined_at, room_first, room_second, room_third, room_fourth}
 use Rattle.walk.proofs.examine.+cut_examine.Goals as goal
 use Rattle.walk.proofs.examine.+cut_examine.Goals.{examine-then-colour-eq1+else-cell-k, examine-else-colour-eq1}
@@ -23,7 +23,7 @@ cut-examine-a-requires g t c κs within =
       (
         within,
         (
-          record { sheet = o.sheet; near = lower_left o.sheet c.requires.2 o.own c.halve.ensures c.part.ensures },
+          record { sheet = o.sheet; near = near_by o.sheet c.requires.2 o.own c.halve.ensures c.part.ensures (omega arith) (omega arith) },
           rw c.part.ensures.level (room_first w.fewer w.rest c.requires.2 c.requires.1),
         ),
       ),
@@ -36,8 +36,8 @@ cut-examine-b-requires g t c κs within =
       (
         within,
         (
-          record { sheet = o.sheet; near = lower_right o.sheet c.requires.2 o.own c.halve.ensures c.part-2.ensures },
-          rw c.part-2.ensures.level (room_second w.fewer w.rest c.requires.2 c.requires.1 (rw c.part.ensures.level at (c.examine-a.ensures o.sheet (lower_left o.sheet c.requires.2 o.own c.halve.ensures c.part.ensures)))),
+          record { sheet = o.sheet; near = near_by o.sheet c.requires.2 o.own c.halve.ensures c.part-2.ensures (omega arith) (omega arith) },
+          rw c.part-2.ensures.level (room_second w.fewer w.rest c.requires.2 c.requires.1 (rw c.part.ensures.level at (c.examine-a.ensures o.sheet (near_by o.sheet c.requires.2 o.own c.halve.ensures c.part.ensures (omega arith) (omega arith))))),
         ),
       ),
     )
@@ -49,8 +49,8 @@ cut-examine-c-requires g t c κs within =
       (
         within,
         (
-          record { sheet = o.sheet; near = upper_left o.sheet c.requires.2 o.own c.halve.ensures c.part-3.ensures },
-          rw c.part-3.ensures.level (room_third w.fewer w.rest c.requires.2 c.requires.1 (rw c.part.ensures.level at (c.examine-a.ensures o.sheet (lower_left o.sheet c.requires.2 o.own c.halve.ensures c.part.ensures))) (rw c.part-2.ensures.level at (c.examine-b.ensures o.sheet (lower_right o.sheet c.requires.2 o.own c.halve.ensures c.part-2.ensures)))),
+          record { sheet = o.sheet; near = near_by o.sheet c.requires.2 o.own c.halve.ensures c.part-3.ensures (omega arith) (omega arith) },
+          rw c.part-3.ensures.level (room_third w.fewer w.rest c.requires.2 c.requires.1 (rw c.part.ensures.level at (c.examine-a.ensures o.sheet (near_by o.sheet c.requires.2 o.own c.halve.ensures c.part.ensures (omega arith) (omega arith)))) (rw c.part-2.ensures.level at (c.examine-b.ensures o.sheet (near_by o.sheet c.requires.2 o.own c.halve.ensures c.part-2.ensures (omega arith) (omega arith))))),
         ),
       ),
     )
@@ -62,8 +62,8 @@ cut-examine-d-requires g t c κs within =
       (
         within,
         (
-          record { sheet = o.sheet; near = upper_right o.sheet c.requires.2 o.own c.halve.ensures c.part-4.ensures },
-          rw c.part-4.ensures.level (room_fourth w.fewer w.rest c.requires.2 c.requires.1 (rw c.part.ensures.level at (c.examine-a.ensures o.sheet (lower_left o.sheet c.requires.2 o.own c.halve.ensures c.part.ensures))) (rw c.part-2.ensures.level at (c.examine-b.ensures o.sheet (lower_right o.sheet c.requires.2 o.own c.halve.ensures c.part-2.ensures))) (rw c.part-3.ensures.level at (c.examine-c.ensures o.sheet (upper_left o.sheet c.requires.2 o.own c.halve.ensures c.part-3.ensures)))),
+          record { sheet = o.sheet; near = near_by o.sheet c.requires.2 o.own c.halve.ensures c.part-4.ensures (omega arith) (omega arith) },
+          rw c.part-4.ensures.level (room_fourth w.fewer w.rest c.requires.2 c.requires.1 (rw c.part.ensures.level at (c.examine-a.ensures o.sheet (near_by o.sheet c.requires.2 o.own c.halve.ensures c.part.ensures (omega arith) (omega arith)))) (rw c.part-2.ensures.level at (c.examine-b.ensures o.sheet (near_by o.sheet c.requires.2 o.own c.halve.ensures c.part-2.ensures (omega arith) (omega arith)))) (rw c.part-3.ensures.level at (c.examine-c.ensures o.sheet (near_by o.sheet c.requires.2 o.own c.halve.ensures c.part-3.ensures (omega arith) (omega arith))))),
         ),
       ),
     )
@@ -71,19 +71,23 @@ cut-examine-d-requires g t c κs within =
 pub cut-cut_cell-requires : goal.cut-cut_cell-requires
 cut-cut_cell-requires g t c =
     let a = c.args in let o = c.requires.0 in let k = depth_small o in (
-      few (verdict o.sheet (mode_of a.mode)) _ _ _ _ _ k (c.examine-a.ensures o.sheet (lower_left o.sheet c.requires.2 o.own c.halve.ensures c.part.ensures)).counted,
-      few (verdict o.sheet (mode_of a.mode)) _ _ _ _ _ k (c.examine-b.ensures o.sheet (lower_right o.sheet c.requires.2 o.own c.halve.ensures c.part-2.ensures)).counted,
-      few (verdict o.sheet (mode_of a.mode)) _ _ _ _ _ k (c.examine-c.ensures o.sheet (upper_left o.sheet c.requires.2 o.own c.halve.ensures c.part-3.ensures)).counted,
-      few (verdict o.sheet (mode_of a.mode)) _ _ _ _ _ k (c.examine-d.ensures o.sheet (upper_right o.sheet c.requires.2 o.own c.halve.ensures c.part-4.ensures)).counted,
+      few (verdict o.sheet (mode_of a.mode)) _ _ _ _ _ k (c.examine-a.ensures o.sheet (near_by o.sheet c.requires.2 o.own c.halve.ensures c.part.ensures (omega arith) (omega arith))).counted,
+      few (verdict o.sheet (mode_of a.mode)) _ _ _ _ _ k (c.examine-b.ensures o.sheet (near_by o.sheet c.requires.2 o.own c.halve.ensures c.part-2.ensures (omega arith) (omega arith))).counted,
+      few (verdict o.sheet (mode_of a.mode)) _ _ _ _ _ k (c.examine-c.ensures o.sheet (near_by o.sheet c.requires.2 o.own c.halve.ensures c.part-3.ensures (omega arith) (omega arith))).counted,
+      few (verdict o.sheet (mode_of a.mode)) _ _ _ _ _ k (c.examine-d.ensures o.sheet (near_by o.sheet c.requires.2 o.own c.halve.ensures c.part-4.ensures (omega arith) (omega arith))).counted,
     )
 
 pub cut-returns : goal.cut-returns
 cut-returns g t c S f o =
     let a = c.args in let v = verdict S (mode_of a.mode) in
-    let w = examined_at (omega arith) (omega arith) (omega arith) (c.examine-a.ensures S (lower_left S c.requires.2 f c.halve.ensures c.part.ensures)) in
-    let x = examined_at (omega arith) (omega arith) (omega arith) (c.examine-b.ensures S (lower_right S c.requires.2 f c.halve.ensures c.part-2.ensures)) in
-    let y = examined_at (omega arith) (omega arith) (omega arith) (c.examine-c.ensures S (upper_left S c.requires.2 f c.halve.ensures c.part-3.ensures)) in
-    let z = examined_at (omega arith) (omega arith) (omega arith) (c.examine-d.ensures S (upper_right S c.requires.2 f c.halve.ensures c.part-4.ensures)) in
+    let first = near_by S c.requires.2 f c.halve.ensures c.part.ensures (omega arith) (omega arith) in
+    let second = near_by S c.requires.2 f c.halve.ensures c.part-2.ensures (omega arith) (omega arith) in
+    let third = near_by S c.requires.2 f c.halve.ensures c.part-3.ensures (omega arith) (omega arith) in
+    let fourth = near_by S c.requires.2 f c.halve.ensures c.part-4.ensures (omega arith) (omega arith) in
+    let w = examined_at (omega arith) (omega arith) (omega arith) (c.examine-a.ensures S first) in
+    let x = examined_at (omega arith) (omega arith) (omega arith) (c.examine-b.ensures S second) in
+    let y = examined_at (omega arith) (omega arith) (omega arith) (c.examine-c.ensures S third) in
+    let z = examined_at (omega arith) (omega arith) (omega arith) (c.examine-d.ensures S fourth) in
     record {
       leaves = g.met.L.Leaves.parts v a.k a.cell.level a.cell.column a.cell.row _ _ _ _ _ c.requires.2 o w.leaves x.leaves y.leaves z.leaves;
       counted = rw c.cut_cell.ensures (counted_cut v a.k a.cell.level a.cell.column a.cell.row _ _ _ _ c.requires.2 (open_by _ o) w.counted x.counted y.counted z.counted);
