@@ -83,6 +83,8 @@ WAYS = [
     ("probe::Known::asking", (LIB, METHOD.replace("Checked", "Known")), (LIB, "{ verdict: Verdict }", "{ verdict: Verdict, known: Known }")),
     ("probe::Known::asking", (LIB, METHOD.replace("Checked", "Known")), (LIB, "pub const KNOWN: Known = Known { n: 8 };\n")),
     ("probe::Verdict::asking", (VERDICTS, METHOD.replace("Checked", "Verdict")), (VERDICTS, TYPES, FUNCTIONS)),
+    # a function that a type has by a trait of std
+    ("probe::Checked::from", (LIB, METHOD.replace("impl Checked", "impl From<u32> for Checked").replace("pub fn asking(self) -> u32", "fn from(self: u32) -> u32"))),
     # a new crate
     ("asking::asking", ("crates/asking/src/lib.rt", f"// Calls.\n{ASKING}")),
 ]

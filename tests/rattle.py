@@ -11,9 +11,8 @@ from tokens import Unread, clauses, depths, tokens
 # the words that begin a path within the crate
 WITHIN = ("crate", "self", "super")
 
-# what may be derived, or be an impl's trait: its contracts are those of std. Anything else that has an attribute is not understood
+# what may be derived: its contracts are those of std. Anything else that has an attribute is not understood
 DERIVED = ("Drop", "Clone", "Copy", "PartialEq", "Eq", "Debug")
-TRAITS = ("From", "TryFrom", "Display", "Error", "Iterator")
 
 # a function: its module, name and line, each thing that it is given with its type, its answer's type, its clauses, whether C may call it, what it calls, and
 # the name of the cycle that it is in, if it is in one
@@ -33,6 +32,7 @@ class Module:
         self.crate, self.path, self.file, self.parent = crate, path, file, parent
         self.items = []    # whether it is public, and the item
         self.methods = []
+        self.blocks = []   # the line and the type of each block that has the functions of a trait
         self.foreign = []  # the lines where functions of C are declared
 
     name = property(lambda self: self.path[-1])
@@ -210,8 +210,9 @@ class Reader:
         trait, kind = path[:path.index("for")], path[path.index("for") + 1:]
         if not re.fullmatch(r"\w+", " ".join(map(str, kind[-1:]))):
             raise Unread(self.line(), "a block of a trait for no type")
-        # what a type has by a trait of a crate here is shown wherever the type is
-        self.methods(module, tuple(kind), kind[-1] + trait[-1], trait[-1] not in TRAITS)
+        module.blocks.append((self.line(), tuple(kind)))
+        # what a type has by a trait, of a crate here or of std, is shown wherever the type is
+        self.methods(module, tuple(kind), kind[-1] + trait[-1], True)
 
     def methods(self, module, path, title, shown=None):
         """The functions in braces, each public where it says so, or all of them as the braces are; what is ghost, or a type of a trait, has no name from outside."""
@@ -282,6 +283,11 @@ def crate_at(name):
         return None
     root = Module(name, (), files[0], None)
     read(root)
+    # functions are met by their types: those of a type of another crate would be met by none
+    for module in root.within():
+        for line, kind in module.blocks:
+            if not any(isinstance(one, Type) for one in Faces({name: root}).meant(module, kind)):
+                raise Unread(line, "a block of a trait for no type of the crate", module.file)
     return root
 
 

@@ -47,13 +47,22 @@ def clauses(text):
     return [(line, token[1]) for line, token in tokens(text) if isinstance(token, tuple)]
 
 
-def asked(text):
-    """The words of all that is required and ensured; none, where the text is not understood."""
+def said(text):
+    """All that is required and ensured; nothing, where the text is not understood."""
     try:
-        said = [token[1] for _, token in tokens(text) if isinstance(token, tuple) and token[0] != "ghost"]
+        return " ".join(token[1] for _, token in tokens(text) if isinstance(token, tuple) and token[0] != "ghost")
     except Unread:
-        said = []
-    return set(re.findall(r"\w+", " ".join(said)))
+        return ""
+
+
+def asked(text):
+    """The words of what is required and ensured."""
+    return set(re.findall(r"\w+", said(text)))
+
+
+def members(text):
+    """Those that follow a point, as the members of a trait do after a type."""
+    return set(re.findall(r"\.(\w+)", said(text)))
 
 
 def depths(tokens):

@@ -34,7 +34,7 @@ import faces
 import rattle
 import sources
 from sources import KINDS, NAME, at, brings, code_of, document, named, names_in, oddities, signatures, specs_of, tables, text_of, uses
-from tokens import asked
+from tokens import asked, members
 
 LONGEST = 400
 # the left column of docs/DESIGN.md: document 01 as definitions, and what they rest on
@@ -276,9 +276,9 @@ def in_laws(path):
     text = "\n".join(code_of(path))
     bodies = re.findall(r"^(?:pub )?trait\b[^{]*\{(.*?)^\}", text, re.M | re.S)
     laws = {name for body in bodies if " fn " in body for name in re.findall(r"^ *ghost (\w+): \{", body[body.rfind(" fn "):], re.M)}
-    # what a clause names is data, wherever it is declared
+    # what a clause names is data, wherever it is declared: in its own crate by any word, in another as a type's member
     kin = sorted(at(f"crates/{path.relative_to(sources.ROOT).parts[1]}/src").glob("**/*.rt"))
-    laws = laws.difference(*(asked(text_of(one)) for one in kin))
+    laws = laws.difference(*(asked(text_of(one)) for one in kin), *(members(text_of(one)) for one in sources.sources() if one.suffix == ".rt"))
     rest = re.sub(r"^( +)ghost (\w+) = \{.*?\};$", lambda found: "" if found[2] in laws else found[0], text, flags=re.M | re.S)
     words = set(re.findall(NAME, sources.GHOST_USE.sub("", rest)))
     return {use.line for use in uses(path) if use.items and all(item and name not in words and not {*name.split("◌")} & words for item, name in use.items)}

@@ -116,6 +116,7 @@ BREAKS = {
         (f"{NUMBERS}:11 has `requires` with a comment or a text in its braces", (NUMBERS, "n ≤ 8 }", "n ≤ 8 -- or more }")),
         (f"{NUMBERS}:17 has `- : u32` among what is given to last", (NUMBERS, "\nfn last(-: u32) {}\n")),
         (f"{NUMBERS}:17 has a block of a trait for no type", (NUMBERS, "\nimpl More for [u32; 2] {}\n")),
+        (f"{NUMBERS}:17 has a block of a trait for no type of the crate", (NUMBERS, "\nimpl More for u32 {}\n")),
     ],
     tree.disguises: [
         (f"{PROVED}:3 gives something else the name of the library Rattle",
@@ -174,6 +175,11 @@ BREAKS = {
          (NUMBERS, "\ntrait Axis {\n    fn moved(n: u64) -> u64;\n\n    ghost still: { Type 0 };\n}\n"
                    "\nstruct Across;\n\nimpl Axis for Across {\n    fn moved(n: u64) -> u64 {\n        n\n    }\n\n    ghost still = { own_degree };\n}\n"
                    "\nfn same<A: Axis>(n: u64) -> u64\n    ensures { A.still }\n{\n    n\n}\n")),
+        # the clause stands in another crate
+        (f"{NUMBERS}:6 {RESTS}", (NUMBERS, "{◌≡◌, ◌/◌, ◌≤◌};\n", "{◌≡◌, ◌/◌, ◌≤◌};\nghost use Rattle.page.proofs.Facts.{own_degree};\n"),
+         (NUMBERS, "\npub trait Axis {\n    fn moved(n: u64) -> u64;\n\n    ghost still: { Type 0 };\n}\n"
+                   "\nstruct Across;\n\nimpl Axis for Across {\n    fn moved(n: u64) -> u64 {\n        n\n    }\n\n    ghost still = { own_degree };\n}\n"),
+         ("crates/probe/src/refusals.rt", "\nfn same<A: numbers::Axis>(n: u64) -> u64\n    ensures { A.still }\n{\n    n\n}\n")),
     ],
 
     # ---- what crates rest on
