@@ -48,21 +48,21 @@ def clauses(text):
 
 
 def said(text):
-    """All that is required and ensured; nothing, where the text is not understood."""
+    """All that is required and ensured, and what is ghost; nothing, where the text is not understood."""
     try:
-        return " ".join(token[1] for _, token in tokens(text) if isinstance(token, tuple) and token[0] != "ghost")
+        return " ".join(token[1] for _, token in tokens(text) if isinstance(token, tuple))
     except Unread:
         return ""
 
 
 def asked(text):
-    """The words of what is required and ensured."""
+    """Its words."""
     return set(re.findall(r"\w+", said(text)))
 
 
 def members(text):
     """Those that follow a point, as the members of a trait do after a type."""
-    return set(re.findall(r"\.(\w+)", said(text)))
+    return set(re.findall(r"\.\s*(\w+)", said(text)))
 
 
 def depths(tokens):
