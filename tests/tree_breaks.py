@@ -180,6 +180,11 @@ BREAKS = {
          (NUMBERS, "\npub trait Axis {\n    fn moved(n: u64) -> u64;\n\n    ghost still: { Type 0 };\n}\n"
                    "\nstruct Across;\n\nimpl Axis for Across {\n    fn moved(n: u64) -> u64 {\n        n\n    }\n\n    ghost still = { own_degree };\n}\n"),
          ("crates/probe/src/refusals.rt", "\nfn same<A: numbers::Axis>(n: u64) -> u64\n    ensures { A.still }\n{\n    n\n}\n")),
+        # it is what a ghost field says
+        (f"{NUMBERS}:6 {RESTS}", (NUMBERS, "{◌≡◌, ◌/◌, ◌≤◌};\n", "{◌≡◌, ◌/◌, ◌≤◌};\nghost use Rattle.page.proofs.Facts.{own_degree};\n"),
+         (NUMBERS, "\npub trait Axis {\n    fn moved(n: u64) -> u64;\n\n    ghost still: { Type 0 };\n}\n"
+                   "\nstruct Across;\n\nimpl Axis for Across {\n    fn moved(n: u64) -> u64 {\n        n\n    }\n\n    ghost still = { own_degree };\n}\n"
+                   "\nstruct Held<A: Axis> {\n    n: u64,\n    ghost is: { A.still },\n}\n")),
     ],
 
     # ---- what crates rest on
