@@ -1,23 +1,17 @@
 -- The digits of a text as bits, byte by byte: those ahead of each place, and none beyond the end.
 use mathlib.Core.Path.{◌≡◌, refl, sym, ◌∙◌, ap}
-use mathlib.Core.Bool.{Bool, true, false, not, cond}
+use mathlib.Core.Bool.{Bool, true, false}
 use mathlib.Core.List.{List, [], ◌∷◌, ◌++◌, map, map-append}
 use Prim.Native.Nat.{ℕ, suc, ◌+◌, ◌-◌, ◌≤◌, ◌<◌}
 use native.Mathlib.Decide.{dec_lt}
 use native.Mathlib.Omega.{arith}
-use lib.Dec.{ltb, eqb, leb-suc-suc}
-use lib.ListN.{length, get_or, drop, length-map, length-drop, drop_of_length-le}
-use lib.Seq.{drop-drop, get_or-drop}
-use borrow.Author.Tests.{eqb-true, lt-ltb, le-ltb}
-use Rattle.std.proofs.Common.{Option, None, Some}
-use Rattle.std.specs.Option.{IsSome}
-use Rattle.std.specs.List.{position_or_len}
-use Rattle.std.proofs.lemmas.List.Quantifiers.{position-Some}
+use lib.Dec.{eqb}
+use lib.ListN.{length, get_or, drop, length-map, drop_of_length-le}
+use borrow.Author.Tests.{eqb-true}
 use Rattle.verdicts.specs.Walking.{those}
 use Rattle.verdicts.proofs.Lists.{those-++, those_first}
 use Rattle.page.proofs.Amounts.{rest_is}
 use Rattle.pbm.specs.Reading.{is_bit}
-use Rattle.header.proofs.Firsts.{told, told_some, told_none}
 use Rattle.scanning.specs.Steps.{bits_ahead, BitFound}
 
 -- ---- a digit is byte 48 or 49
@@ -67,35 +61,20 @@ pub ahead_few : (text : List ℕ) → length (bits_ahead text) ≤ length text
 unfolding bits_ahead
 ahead_few text = rw (length-map (those is_bit text) (λ b. b - 48)) (those_few is_bit text)
 
--- ---- the next digit is the first byte that is one
-ahead_to : (l : List ℕ) → bits_ahead l ≡ cond (ltb (position_or_len is_bit l) (length l)) ((get_or l (position_or_len is_bit l) 0 - 48) ∷ bits_ahead (drop (position_or_len is_bit l + 1) l)) []
-unfolding bits_ahead those
-ahead_to [] = refl
-ahead_to (b ∷ l) = by (position_or_len is_bit l) (is_bit b) (ahead_to l)
-  where
-    by : (n : ℕ) (t : Bool) → bits_ahead l ≡ cond (ltb n (length l)) ((get_or l n 0 - 48) ∷ bits_ahead (drop (n + 1) l)) []
-        → map (λ b. b - 48) (cond t (b ∷ those is_bit l) (those is_bit l)) ≡ cond (ltb (cond (not t) (1 + n) 0) (suc (length l))) ((get_or (b ∷ l) (cond (not t) (1 + n) 0) 0 - 48) ∷ bits_ahead (drop (cond (not t) (1 + n) 0 + 1) (b ∷ l))) []
-    by n true e = rw (lt-ltb 0 (suc (length l)) (omega arith))
-    by n false e = let m : 1 + n ≡ suc n = omega arith in let k : suc n + 1 ≡ suc (n + 1) = omega arith in rw (m, k, leb-suc-suc (suc n) (length l)) e
+-- ---- the search for the next digit: no digit was passed, and one is ahead
+pub record Seeking (text : List ℕ) (at i : ℕ) : Type 0 where
+  pub same : bits_ahead (drop at text) ≡ bits_ahead (drop i text)
+  pub some : 0 < length (bits_ahead (drop i text))
 
-some_of : (r : Option ℕ) → (r ≡ None → ⊥) → IsSome r
-some_of None n = absurd (n refl)
-some_of (Some i) n = refl
+module _ {text : List ℕ} {at : ℕ} where
+  pub seeking_start : 0 < length (bits_ahead (drop at text)) → Seeking text at at
+  seeking_start h = record { same = refl; some = h }
 
-module _ (text : List ℕ) (at : ℕ) {r : Option ℕ} (e : r ≡ told (position_or_len is_bit (drop at text)) (length (drop at text))) where
-  -- where bits are ahead, there is one
-  pub bit_some : 0 < length (bits_ahead (drop at text)) → IsSome r
-  bit_some h = some_of r (λ n.
-      let none : bits_ahead (drop at text) ≡ [] = ahead_to (drop at text) ∙ rw (le-ltb (position_or_len is_bit (drop at text)) (length (drop at text)) (told_none e n)) in
-      let z = ap length none in omega arith)
+  pub seeking_within : {i : ℕ} → Seeking text at i → i < length text
+  seeking_within {i} s = ahead_within text i s.some
 
-  pub bit_found : {n : ℕ} → r ≡ Some n → BitFound text at (at + n)
-  bit_found {n} s =
-      let t : (position_or_len is_bit (drop at text) ≡ n) × (position_or_len is_bit (drop at text) < length (drop at text)) = told_some e s in let first = position-Some is_bit (drop at text) n 0 (sym e ∙ s) in
-      let here = get_or-drop at text n 0 in let long = length-drop at text in
-      let more : at + (n + 1) ≡ at + n + 1 = omega arith in
-      record {
-        digit = ap is_bit (sym here) ∙ first.1;
-        ahead = ahead_to (drop at text) ∙ rw (lt-ltb (position_or_len is_bit (drop at text)) (length (drop at text)) t.1, t.0, here, drop-drop (n + 1) at text, more);
-        within = omega arith;
-      }
+  pub seeking_next : {i : ℕ} {r : Bool} → Seeking text at i → r ≡ is_bit (get_or text i 0) → r ≡ false → Seeking text at (i + 1)
+  seeking_next {i} s e f = let p = ahead_same text i (seeking_within s) (sym e ∙ f) in record { same = s.same ∙ p; some = rw p at s.some }
+
+  pub seeking_end : {i : ℕ} {r : Bool} → Seeking text at i → r ≡ is_bit (get_or text i 0) → r ≡ true → BitFound text at i
+  seeking_end {i} s e t = record { digit = sym e ∙ t; ahead = s.same ∙ ahead_more text i (seeking_within s) (sym e ∙ t); within = seeking_within s }

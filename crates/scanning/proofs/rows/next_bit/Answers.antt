@@ -1,30 +1,25 @@
--- `scanning::rows::next_bit` meets its contract: the first byte that is a digit, of which there is one.
+-- `scanning::rows::next_bit` meets its contract: one byte after the other, until one is a digit.
 use native.Mathlib.Omega.{arith}
-use Rattle.std.proofs.Common.{◌≡◌, ◌∙◌, drop, length, rules, tests}
-use Rattle.std.specs.List.{position_or_len}
-use Rattle.std.proofs.lemmas.Iterator.{YieldsList-from_slice}
-use Rattle.std.proofs.lemmas.Iterator.Search.{position_from_yields_List}
-use Rattle.pbm.specs.Reading.{is_bit}
-use Rattle.header.proofs.Firsts.{all_left, told}
-use Rattle.scanning.proofs.Ahead.{ahead_within, bit_some, bit_found}
+use Rattle.scanning.proofs.Ahead.{seeking_start, seeking_within, seeking_next, seeking_end}
 use Rattle.scanning.proofs.rows.next_bit.Goals as goal
 
-pub slice_bounds-iter-count : goal.slice_bounds-iter-count
-slice_bounds-iter-count c = let h = ahead_within c.args.text.now c.args.at c.requires in omega arith
+pub loop-i-init : goal.loop-i-init
+loop-i-init c = seeking_start c.requires
 
-pub slice_bounds-iter-start : goal.slice_bounds-iter-start
-slice_bounds-iter-start c = let h = ahead_within c.args.text.now c.args.at c.requires in omega arith
+pub bounds-text-i : goal.bounds-text-i
+bounds-text-i c = seeking_within c.loop-i.invariant
 
-pub unwrap-others-requires : goal.unwrap-others-requires
-unwrap-others-requires c =
-    let rest = drop c.args.at c.args.text.now in
-    let whole = YieldsList-from_slice rest (c.iter.ensures.rest ∙ all_left c.args.text.now c.args.at) in
-    let e : c.position.result ≡ told (position_or_len is_bit rest) (length rest) = position_from_yields_List is_bit _ _ c.position.result c.position.ensures.ran whole (λ x b q k. search (rules, tests)) in
-    bit_some c.args.text.now c.args.at e c.requires
+pub is_bit-requires : goal.is_bit-requires
+is_bit-requires c = tt
+
+pub overflow_add-i : goal.overflow_add-i
+overflow_add-i c = omega (arith, seeking_within c.loop-i.invariant)
+
+pub loop-i-smaller : goal.loop-i-smaller
+loop-i-smaller c = omega (arith, seeking_within c.loop-i.invariant)
+
+pub loop-i-preserved : goal.loop-i-preserved
+loop-i-preserved c = seeking_next c.loop-i.invariant c.is_bit.ensures c.loop-i-test.true
 
 pub returns : goal.returns
-returns c =
-    let rest = drop c.args.at c.args.text.now in
-    let whole = YieldsList-from_slice rest (c.iter.ensures.rest ∙ all_left c.args.text.now c.args.at) in
-    let e : c.position.result ≡ told (position_or_len is_bit rest) (length rest) = position_from_yields_List is_bit _ _ c.position.result c.position.ensures.ran whole (λ x b q k. search (rules, tests)) in
-    bit_found c.args.text.now c.args.at e c.unwrap-others.ensures
+returns c = seeking_end c.loop-i.invariant c.is_bit.ensures c.loop-i-test.false
