@@ -5,7 +5,7 @@ ghost use Rattle.scanning.specs.Steps.{bits_ahead, BitFound, RowTaken, RowsTaken
 use crate::digits::is_bit;
 
 // The next digit from `at` on, of which there is one.
-// A while: by `position`, or by a `for` over the places, a dense picture takes a quarter more instructions, and up to half more time (docs/LOOK-BACK.md).
+// A while: by `position` a dense picture takes a sixth more instructions, and up to half more time as the code happens to lie; by a `for` more of them yet.
 fn next_bit(text: &[u8], at: usize) -> usize
     requires { 0 < length (bits_ahead (drop at text.now)) }
     ensures { BitFound text.now at result }
